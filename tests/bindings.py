@@ -1,5 +1,5 @@
 #!/usr/bin/env python3
-"""Builds the library for C, C++, Rust and Python in a folder of its own, and tests it from each of these.
+"""Builds the library for C, C++, Rust and Python in a folder of its own, tests it from each of these, and tests the release.
 
     tests/bindings.py        after `rt ci`, over the libraries and the program `rr` that it left
     tests/bindings.py RR     with another build of the program `rr`
@@ -14,33 +14,32 @@ import shutil
 import subprocess
 import sys
 import tempfile
+import threading
 import time
 
 ROOT = pathlib.Path(__file__).resolve().parent.parent
-BINDINGS = ROOT / "bindings"
-HEADER = BINDINGS / "c" / "include" / "rr.h"
 
-sys.path.insert(0, str(BINDINGS / "tests"))
-import sequences  # noqa: E402 (its folder stands in the line above)
+sys.path.insert(0, str(ROOT / "bindings" / "tests"))
+import cpp  # noqa: E402 (its folder stands in the line above)
+import release  # noqa: E402
+import sequences  # noqa: E402
+from room import BINDINGS, C, CPP, HEADER, MEMORY, RACES, Room, Tally, timed  # noqa: E402
 
-TOOLS = ["ar", "cargo", "cc", "clang++", "g++", "ld", "nm", "objcopy", "python3", "readelf", "valgrind"]
+TOOLS = ["ar", "cargo", "cc", "clang++", "cmake", "g++", "ld", "nm", "objcopy", "pkg-config", "python3", "readelf", "valgrind"]
 
 # What the libraries need of the C library.
 NEEDED = ["free", "malloc", "memmove", "memset", "realloc"]
-WARNINGS = ["-Wall", "-Wextra", "-Werror", "-pedantic"]
-C = ["cc", "-std=c11", "-O2", *WARNINGS]
-CPP = ["g++", "-std=c++17", "-O2", *WARNINGS, "-x", "c++"]
-
-VALGRIND = ["valgrind", "-q", "--error-exitcode=9"]
-MEMORY = [*VALGRIND, "--leak-check=full", "--show-leak-kinds=all", "--errors-for-leak-kinds=all"]
-RACES = [*VALGRIND, "--tool=helgrind"]
 
 # What the examples print.
 EXAMPLES = {
     "request_response": "the server received 21\nthe client received 42\n",
     "streaming": "".join(f"response {it} of 1 byte: {10 * it}\n" for it in range(1, 6)) + "the server has stopped\n",
     "in_place": "256 shades: 16 black pixels, 16 white ones\n",
+    "threads": release.C_THREADS,
 }
+
+# What those in Python print.
+PYTHON_EXAMPLES = {"threads": cpp.EXAMPLES["threads"], "stream": cpp.EXAMPLES["stream"], "tasks": "3\n2\n1\n"}
 
 # What the tests in C print, and what valgrind looks for in them: nothing in one that has an allocator of its own.
 TESTS = {
@@ -52,7 +51,7 @@ TESTS = {
     "time": (r"(c(-copy)? \d+ \d+\.\d \d+\n){6}", None),
 }
 
-# How many sequences of commands are compared for each language, and how many of them under valgrind.
+# How many sequences of commands are compared for each language, and how many of them under valgrind or sanitizers.
 SEQUENCES, VALGRIND_SEQUENCES = 1000, 40
 
 # How many scripts threads carry out, and how many threads.
@@ -60,58 +59,6 @@ LOGS, THREADS = 200, 4
 
 # For how many seconds the C calls are fuzzed.
 FUZZED = 120
-
-
-class Tally:
-    """Counts what passed and what failed, and says so."""
-
-    def __init__(self):
-        self.passed = self.failed = 0
-
-    def note(self, is_well, said):
-        print(("ok: " if is_well else "FAILED: ") + said, flush=True)
-        if is_well:
-            self.passed += 1
-        else:
-            self.failed += 1
-        return is_well
-
-    def end(self):
-        """Prints the last line, and returns the status."""
-        print(f"{self.passed} passed, {self.failed} failed")
-        return 1 if self.failed else 0
-
-
-class Room:
-    """The folder in which all is built, and the variables with which programs run."""
-
-    def __init__(self, folder, reference):
-        self.folder, self.reference = pathlib.Path(folder), reference
-        self.lib, self.target = self.folder / "lib", self.folder / "target"
-        self.env = {
-            **os.environ,
-            "RR_LIB_DIR": str(self.lib),
-            "RR_SO": str(self.lib / "librr.so"),
-            "CARGO_TARGET_DIR": str(self.target),
-            "CARGO_NET_OFFLINE": "true",
-            "PYTHONDONTWRITEBYTECODE": "1",
-        }
-
-    def run(self, words, folder=ROOT, seconds=300):
-        """Runs a program. Returns its status (none if it does not end), its output and its faults."""
-        how = {"capture_output": True, "text": True, "errors": "replace", "env": self.env, "cwd": folder, "timeout": seconds}
-        try:
-            ran = subprocess.run([str(it) for it in words], check=False, **how)
-        except subprocess.TimeoutExpired:
-            return None, "", f"it did not end within {seconds} seconds"
-        return ran.returncode, ran.stdout, ran.stderr
-
-    def compiled(self, compiler, source, name):
-        """Compiles a program and links it with the archive. Returns its path, and what the compiler said if it failed."""
-        program = self.folder / name
-        libraries = ["-x", "none", self.lib / "librr.a", "-pthread"]
-        status, output, faults = self.run([*compiler, f"-I{HEADER.parent}", source, *libraries, "-o", program])
-        return program, "" if status == 0 else output + faults or "the compiler failed"
 
 
 def lines_of(text):
@@ -187,7 +134,7 @@ def check_layouts(room, tally):
     others = {
         "C++": [room.compiled(CPP, source, "layout_cpp")[0]],
         "Rust": [room.target / "debug" / "layout"],
-        "Python": [sys.executable, BINDINGS / "python" / "layout.py"],
+        "Python": [sys.executable, BINDINGS / "python" / "tests" / "layout.py"],
     }
     for language, words in others.items():
         status, told, faults = room.run(words) if pathlib.Path(words[0]).exists() else (None, "", "it was not built")
@@ -205,30 +152,13 @@ def check_proved_layout(room, wanted, tally):
     tally.note(is_well, f"the proved crate lays {len(structs)} structs and fields out as C does{said} {faults}".rstrip())
 
 
-def check_program(room, tally, compiler, source, wanted, valgrind):
-    """Compiles a program and runs it, and under valgrind too unless that is None, and compares what it prints."""
-    name = f"{source.name}, {compiler[0]}"
-    program, faults = room.compiled(compiler, source, f"{source.stem}_{compiler[0]}")
-    if faults:
-        tally.note(False, f"{name}: {faults}")
-        return
-    for how, words in (("", []), (" under valgrind", valgrind)):
-        if words is not None:
-            status, output, faults = room.run([*words, program])
-            is_well = status == 0 and faults == "" and re.fullmatch(wanted, output) is not None
-            tally.note(is_well, f"{name}{how}: status {status}, {output.strip().splitlines()[-1:]}")
-            if not is_well:
-                print(output + faults)
-
-
 def check_c(room, tally):
-    """Runs the examples and tests in C, and those of C++."""
+    """Runs the examples and tests in C."""
     for name, output in EXAMPLES.items():
-        check_program(room, tally, C, BINDINGS / "c" / "examples" / f"{name}.c", re.escape(output), MEMORY)
-    name = "request_response"
-    check_program(room, tally, CPP, BINDINGS / "c" / "examples" / f"{name}.c", re.escape(EXAMPLES[name]), None)
+        room.check_program(tally, f"{name}.c, example", C, BINDINGS / "c" / "examples" / f"{name}.c", re.escape(output), ((), MEMORY))
     for name, (output, valgrind) in TESTS.items():
-        check_program(room, tally, C, BINDINGS / "c" / "tests" / f"{name}.c", output, valgrind)
+        runners = ((), valgrind) if valgrind else ((),)
+        room.check_program(tally, f"{name}.c", C, BINDINGS / "c" / "tests" / f"{name}.c", output, runners)
 
 
 def check_cargo(room, tally):
@@ -253,25 +183,37 @@ def build_scripts(room, tally):
 
 
 def check_python(room, tally):
-    """Runs the tests of the module `rr`."""
-    status, output, faults = room.run([sys.executable, "-m", "unittest", "test_rr"], BINDINGS / "python")
+    """Runs the tests of the package `rr`, and its examples."""
+    words = [sys.executable, "-W", "error", "-m", "unittest", "discover", "--start-directory", "tests"]
+    status, output, faults = room.run(words, BINDINGS / "python")
     ran = re.search(r"^Ran (\d+) tests", faults, re.M)
     if not tally.note(status == 0 and ran is not None and int(ran[1]) > 0, f"Python: status {status}, {ran[0] if ran else 'no tests'}"):
         print(output + faults)
+    for name, wanted in PYTHON_EXAMPLES.items():
+        status, output, faults = room.run([sys.executable, "-W", "error", BINDINGS / "python" / "examples" / f"{name}.py"])
+        is_well = (status, output, faults) == (0, wanted, "")
+        tally.note(is_well, f"the package's example {name}: status {status}, {output.strip().splitlines()[-1:]} {faults}".rstrip())
 
 
 def check_sequences(room, tally):
-    """Compares what C and Rust reply to random scripts with what the proved program replies."""
+    """Compares what each language replies to random scripts with what the proved program replies."""
     if not room.reference.is_file():
         tally.note(False, f"{room.reference} is missing, with whose replies those of the bindings are compared")
         return
-    program, faults = room.compiled(C, BINDINGS / "c" / "tests" / "script.c", "script")
-    if faults:
-        tally.note(False, f"script.c: {faults}")
+    c, c_faults = room.compiled(C, BINDINGS / "c" / "tests" / "script.c", "script")
+    source = BINDINGS / "cpp" / "tests" / "script.cpp"
+    (plus, plus_faults), (checked, checked_faults) = (room.compiled(it, source, f"script_{it[0]}") for it in (cpp.GCC, cpp.ADDRESSES))
+    if c_faults or plus_faults or checked_faults:
+        tally.note(False, f"the scripts: {c_faults}{plus_faults}{checked_faults}")
+    # Memory that the address sanitizer refuses is no error here: it says so in a file.
+    refusing = ["env", f"ASAN_OPTIONS=allocator_may_return_null=1:log_path={room.folder / 'sanitizer'}"]
     scripts = [
-        ("C", SEQUENCES, "c", [program]),
-        ("C under valgrind", VALGRIND_SEQUENCES, "valgrind", [*MEMORY, program]),
+        ("C", SEQUENCES, "c", [c]),
+        ("C under valgrind", VALGRIND_SEQUENCES, "valgrind", [*MEMORY, c]),
+        ("C++", SEQUENCES, "c++", [plus]),
+        ("C++ under sanitizers", VALGRIND_SEQUENCES, "sanitizers", [*refusing, checked]),
         ("Rust", SEQUENCES, "rust", [room.target / "debug" / "rr-script"]),
+        ("Python", SEQUENCES, "python", [sys.executable, BINDINGS / "python" / "tests" / "script.py"]),
     ]
     for name, count, seed, driver in scripts:
         words = [sys.executable, BINDINGS / "tests" / "sequences.py", room.reference, count, seed, *driver]
@@ -310,12 +252,32 @@ def check_threads(room, tally):
     tally.note(commands > 0 and moved > 0 and differ == 0, said)
 
 
-def check_fuzz(room, tally):
-    """Fuzzes the C calls beside the model of the rules."""
-    status, _, faults = room.run([BINDINGS / "fuzz" / "run", FUZZED, room.folder], seconds=FUZZED + 300)
-    runs = re.search(r"^stat::number_of_executed_units: (\d+)", faults, re.M)
-    if not tally.note(status == 0 and runs is not None, f"the fuzzer's model agrees with the calls: {runs[1] if runs else 0} runs"):
-        print(faults[-3000:])
+class Fuzz:
+    """Fuzzes the C calls beside the model of the rules, while the other checks run."""
+
+    def __init__(self, room):
+        words = [BINDINGS / "fuzz" / "run", FUZZED, room.folder]
+        self._ended = None
+        self._thread = threading.Thread(target=lambda: self._keep(room.run(words, seconds=FUZZED + 300)))
+        self._thread.start()
+
+    def _keep(self, ended):
+        self._ended = ended
+
+    def end(self, tally):
+        """Waits for it, and notes what came out."""
+        self._thread.join()
+        status, _, faults = self._ended
+        runs = re.search(r"^stat::number_of_executed_units: (\d+)", faults, re.M)
+        if not tally.note(status == 0 and runs is not None, f"the fuzzer's model agrees with the calls: {runs[1] if runs else 0} runs"):
+            print(faults[-3000:])
+
+
+# All checks of the libraries, in their order.
+CHECKS = [
+    *(check_symbols, build_scripts, check_layouts, check_c, cpp.check_calls, cpp.check_document, cpp.check_misuse),
+    *(check_cargo, cpp.check_versions, check_python, release.check_release, check_sequences, check_threads),
+]
 
 
 def main(words):
@@ -330,8 +292,10 @@ def main(words):
     with tempfile.TemporaryDirectory() as folder:
         room = Room(folder, pathlib.Path(reference).resolve())
         if build_libraries(room, tally):
-            for check in (check_symbols, build_scripts, check_layouts, check_c, check_cargo, check_python, check_sequences, check_threads, check_fuzz):
-                check(room, tally)
+            fuzz = Fuzz(room)
+            for check in CHECKS:
+                timed(check)(room, tally)
+            fuzz.end(tally)
     taken = round(time.monotonic() - started)
     print(f"the bindings took {taken // 60} minutes and {taken % 60} seconds")
     return tally.end()

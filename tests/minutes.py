@@ -3,8 +3,8 @@
 
     tests/minutes.py FILE COMMAND ..    runs the command, writes the minutes to FILE, and prints them as a table
     tests/minutes.py --table FILE       prints the table
-    tests/minutes.py --check            compares docs/minutes.json with the table in docs/DESIGN.md
-    tests/minutes.py --write            writes that table
+    tests/minutes.py --check            compares docs/FIGURES.md with what tests/figures.py makes of docs/minutes.json and docs/figures.json
+    tests/minutes.py --write            writes that page
 
 What `rt ci` takes from an earlier run costs nothing, and stands in no row. The minutes are those of /proc, looked at every two seconds; what
 that misses of the whole stands under `other`. The status is that of the command.
@@ -19,9 +19,10 @@ import subprocess
 import sys
 import time
 
+import figures
+
 ROOT = pathlib.Path(__file__).resolve().parent.parent
-DESIGN, MINUTES = ROOT / "docs" / "DESIGN.md", ROOT / "docs" / "minutes.json"
-BEGIN, END = "<!-- minutes -->\n", "<!-- end of minutes -->\n"
+MINUTES = ROOT / "docs" / "minutes.json"
 TICKS = os.sysconf("SC_CLK_TCK")
 KINDS = ["proof", "tests", "edits"]
 
@@ -136,11 +137,9 @@ def table(told):
     return "\n".join(lines) + "\n"
 
 
-def design():
-    """Returns DESIGN with the table of docs/minutes.json in it."""
-    text = DESIGN.read_text()
-    head, rest = text.split(BEGIN)
-    return head + BEGIN + table(json.loads(MINUTES.read_text())) + END + rest.split(END)[1]
+def page():
+    """Returns the page of figures with the minutes of docs/minutes.json."""
+    return figures.page(table(json.loads(MINUTES.read_text())))
 
 
 def main(words):
@@ -148,11 +147,11 @@ def main(words):
         print(table(json.loads(pathlib.Path(words[1]).read_text())), end="")
         return 0
     if words[0] == "--write":
-        DESIGN.write_text(design())
+        figures.PAGE.write_text(page())
         return 0
     if words[0] == "--check":
-        is_same = design() == DESIGN.read_text()
-        print("" if is_same else "docs/DESIGN.md has another table than docs/minutes.json: run tests/minutes.py --write\n", end="")
+        is_same = figures.PAGE.is_file() and page() == figures.PAGE.read_text()
+        print("" if is_same else "docs/FIGURES.md is not what its sources make: run tests/minutes.py --write\n", end="")
         print(f"{int(is_same)} passed, {int(not is_same)} failed")
         return int(not is_same)
     status, told = measure(words[1:])

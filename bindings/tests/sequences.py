@@ -221,7 +221,7 @@ def compare(reference, driver, seed):
 
 def main(reference, count, seed, *driver):
     kinds, faults, passed, failed = collections.Counter(), [], 0, 0
-    with concurrent.futures.ProcessPoolExecutor(os.cpu_count()) as pool:
+    with concurrent.futures.ProcessPoolExecutor(len(os.sched_getaffinity(0))) as pool:
         ran = pool.map(compare, *zip(*((reference, driver, f"{seed}-{at}") for at in range(int(count)))), chunksize=5)
         for at, (came, fault) in enumerate(ran):
             kinds.update(came)

@@ -1,8 +1,9 @@
-"""Draws the pictures of the documents from the data below.
+"""Draws the pictures of the documents from the data below, and the times from docs/figures.json.
 
 draw.py           writes the files beside this one
 draw.py --check   compares them with what stands here; the last line is 'N passed, M failed'
 """
+import json
 import pathlib
 import sys
 
@@ -32,8 +33,8 @@ LAYERS = [
     ("rr_hub", "the core: each call is a step of the message machine"),
     ("rr_creating .. rr_releasing", "the calls that have several steps, a crate for each kind"),
     ("rr_store", "ports, handles and messages: two sides and a table"),
-    ("rr_protocol   rr_commands   rr_laws", "limits and errors; the message machine, and laws of its runs"),
-    ("rr_slots   rr_sender   rr_table", "slots, queues, values under numbers"),
+    ("rr_protocol   rr_laws", "limits and errors; the message machine, and laws of its runs"),
+    ("rr_slots   rr_sender   rr_table", "slots, queues, values by number"),
 ]
 
 # A request's story: who calls, what is called, and what the hub does then.
@@ -42,9 +43,9 @@ STORY = [
     ("server", "receive(&mut hub)", "an active request holds the slot"),
     ("server", "send_copy(&mut hub, answer)", "queues a response for this request alone"),
     ("client", "receive(&mut hub)", "the oldest response of some server"),
-    ("client", "set_disconnect_hint(&mut hub)", "has_disconnect_hint is true from now on"),
-    ("server", "release(&mut hub)", "the active request is gone"),
-    ("client", "release(&mut hub)", "its responses go, and its slot is free"),
+    ("client", "set_disconnect_hint(&mut hub)", "has_disconnect_hint is true from then on"),
+    ("server", "release(&mut hub)", "ends the active request"),
+    ("client", "release(&mut hub)", "drops its responses, and frees its slot"),
 ]
 
 # The terms of a client's worst case with iceoryx2's defaults: 2 servers, 4 active requests, 2 loaned ones.
@@ -56,19 +57,6 @@ POOL = [
     ("three", 4, "pending responses"),
     ("four", 2, "on loan"),
 ]
-
-# Nanoseconds a round trip, the best of all samples (docs/DESIGN.md, "Speed").
-TIMES = [
-    ("8 bytes", 88),
-    ("8 bytes, 1,000 clients", 107),
-    ("slice of 8 bytes", 125),
-    ("4,096 bytes in one element", 283),
-    ("slice of 4,096 bytes", 298),
-    ("8 bytes, 64 servers", 972),
-    ("slice of 65,536 bytes", 3527),
-    ("65,536 bytes in one element", 3591),
-]
-
 
 def picture(width, height, title, parts):
     """Returns a picture of parts."""
@@ -133,15 +121,23 @@ def pool():
     return picture(720, 110 + len(POOL) * 26, "What fills a client's pool in the worst case", parts)
 
 
+def bars():
+    """Returns the rows of docs/figures.json that are drawn: words, and nanoseconds a round trip."""
+    told = json.loads((pathlib.Path(__file__).resolve().parent.parent / "figures.json").read_text())
+    tables = [it for section in told["sections"] for it in section["tables"]]
+    return [(words, dict(it["rows"])[row]) for it in tables for words, row in it.get("bars", {}).items()]
+
+
 def times():
     """Returns the times of round trips as bars."""
+    rows = bars()
     parts = [text(10, 26, "Nanoseconds a round trip, the best of all samples", "strong")]
-    most = max(time for _, time in TIMES)
-    for index, (words, time) in enumerate(TIMES):
+    most = max(time for _, time in rows)
+    for index, (words, time) in enumerate(rows):
         y = 48 + index * 30
         width = max(2, round(430 * time / most))
         parts += [text(200, y + 15, words, "", "end"), box(210, y, width, 20, "one"), text(218 + width, y + 15, f"{time:,}", "small")]
-    return picture(720, 60 + len(TIMES) * 30, "Times of round trips through the ports", parts)
+    return picture(720, 60 + len(rows) * 30, "Times of round trips through the ports", parts)
 
 
 PICTURES = {"layers.svg": layers, "story.svg": story, "pool.svg": pool, "times.svg": times}

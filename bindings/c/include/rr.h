@@ -1,5 +1,5 @@
-/* Request-response ports in one process, for C and C++: a client loans a request, writes it in place and sends it to all connected
- * servers; a server answers it as often as it likes; the client receives a stream of responses.
+/* Request-response ports in one process, for C: a client loans a request, writes it in place and sends it to all connected servers; a
+ * server answers it as often as it likes; the client receives a stream of responses. `rr.hpp` has them for C++.
  *
  * One hub owns all ports of a service. A port, a message and a received message go by an `rr_id_t`. Messages are slices of bytes with a
  * user header of 16 bytes. Where iceoryx2's C API has a call, ours has its name without the type of what it is called on: `rr_send` is
@@ -38,6 +38,9 @@
 #ifdef __cplusplus
 extern "C" {
 #endif
+
+/* The version of this header, 0.2.0: 10000 times the first number, 100 times the second and the third. */
+#define RR_VERSION 200
 
 /* What calls return. */
 enum {
@@ -148,6 +151,8 @@ typedef struct rr_user_header_t {
     uint8_t bytes[16]; /* 0 in a new message */
 } rr_user_header_t;
 
+/* Returns the version of the library. A program that is linked with another one than RR_VERSION may go wrong in any call. */
+uint32_t rr_version(void);
 /* Creates a hub without ports: `rr_hub_t hub; rr_hub_create(&limits, 1, &hub.at)`. If it is refused there is no hub, and nothing to drop.
  * RR_HUB_CREATE_*. */
 uint32_t rr_hub_create(const rr_limits_t *limits, uint64_t node_id, void **at);

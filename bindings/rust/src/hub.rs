@@ -57,12 +57,40 @@ fn request_send_error(code: u32) -> RequestSendError {
     }
 }
 
+/// The version of the crate, as `rr_version` returns that of the library.
+const VERSION: u32 = {
+    const fn number(text: &str) -> u32 {
+        match u32::from_str_radix(text, 10) {
+            Ok(number) => number,
+            Err(_) => panic!("a version has three numbers"),
+        }
+    }
+    10000 * number(env!("CARGO_PKG_VERSION_MAJOR"))
+        + 100 * number(env!("CARGO_PKG_VERSION_MINOR"))
+        + number(env!("CARGO_PKG_VERSION_PATCH"))
+};
+
+/// Panics if the library has another version than the crate.
+fn check_version() {
+    // SAFETY: the function takes nothing and touches nothing.
+    let of = unsafe { raw::rr_version() };
+    assert!(
+        of == VERSION,
+        "librr.a has version {}.{}.{}, and the crate rr needs {}",
+        of / 10000,
+        of / 100 % 100,
+        of % 100,
+        env!("CARGO_PKG_VERSION")
+    );
+}
+
 type Query<T> = unsafe extern "C" fn(*mut raw::Hub, *const Id, *mut T) -> u32;
 
 // SAFETY, of each call below: the hub lives, the pointers lead to live values, and `&mut self` keeps other calls away.
 impl Hub {
-    /// Creates a hub, unless its limits are refused or there is no memory.
+    /// Creates a hub, unless its limits are refused or there is no memory. Panics if the library has another version.
     pub fn create(limits: &raw::Limits) -> Option<Hub> {
+        check_version();
         let mut hub = raw::Hub { at: ptr::null_mut() };
         let code = unsafe { raw::rr_hub_create(limits, 0, &mut hub.at) };
         (code == raw::RR_OK).then_some(Hub(hub))

@@ -13,7 +13,7 @@ use std::thread::Threads;
 ///
 /// # Errors
 ///
-/// - `NoMemory` if no memory was found for them.
+/// - `NoMemory` if there was no memory for them.
 /// - `Usage` if one of them is not UTF-8, or they can't be read.
 fn words<R: AllocGlobal + Env>(rt: &R) -> Result<Vec<String>, Stop> {
     let args = match env::args(rt) {

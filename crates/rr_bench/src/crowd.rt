@@ -23,18 +23,18 @@ type Client = typed::Client<u64>;
 /// A server of words.
 type Server = typed::Server<u64>;
 
-/// What is in a hub.
+/// The ports and handles of a hub.
 #[derive(Clone, Copy)]
 pub struct Shape {
-    /// The clients. The one in the middle asks.
+    /// The clients. The middle one asks.
     pub clients: usize,
-    /// The servers. One answers, and the others look for requests.
+    /// The servers. One answers, and the others poll for requests.
     pub servers: usize,
     /// The requests that a client may have on loan.
     pub loans: usize,
-    /// Those that the client in the middle has on loan all the time.
+    /// The requests that the middle client has on loan all the time.
     pub held: usize,
-    /// The clients that came, made one round trip and left before the others came.
+    /// The clients that came, made one round trip and left before the others were created.
     pub passed: u64,
 }
 
@@ -84,12 +84,12 @@ pub const MOST: Shape = Shape {
     ..ALONE
 };
 
-/// What is timed, and how often it is done.
+/// The timed operation, and its number of repetitions.
 #[derive(Clone, Copy)]
 pub enum Job {
     /// Round trips.
     Trips(u64),
-    /// Looks of each server for requests, where none waits.
+    /// Polls of each server for requests, with empty queues.
     Looks(u64),
 }
 
@@ -109,7 +109,7 @@ fn looks(hub: &mut Hub, server: &Server, onlookers: &[Server], count: u64) -> Re
     Ok(sum)
 }
 
-/// Does a job.
+/// Runs a job.
 fn work<R: Clock>(
     rt: &R,
     hub: &mut Hub,
@@ -133,7 +133,7 @@ fn work<R: Clock>(
     }
 }
 
-/// Does a job while `left` more servers poll for requests.
+/// Runs a job while `left` more servers poll for requests.
 fn beside_servers<R: Clock>(
     rt: &R,
     hub: &mut Hub,
@@ -166,7 +166,7 @@ fn beside_servers<R: Clock>(
     done
 }
 
-/// Does a job while the client holds `left` more requests.
+/// Runs a job while the client holds `left` more requests.
 fn beside_loans<R: Clock>(
     rt: &R,
     alloc: Global,
@@ -196,7 +196,7 @@ fn beside_loans<R: Clock>(
     done
 }
 
-/// Creates `left` more clients, and does a job by the one in the middle, which holds `held` requests.
+/// Creates `left` more clients, and runs a job with the middle one, which holds `held` requests.
 fn beside_clients<R: Clock>(
     rt: &R,
     alloc: Global,
@@ -238,7 +238,23 @@ fn come_and_leave(alloc: Global, hub: &mut Hub, server: &Server) -> anyhow::Resu
     Ok(())
 }
 
-/// Lets clients pass, and does a job by one that is created then.
+/// Creates a server, and runs a job beside it.
+fn with_server<R: Clock>(
+    rt: &R,
+    alloc: Global,
+    hub: &mut Hub,
+    shape: &Shape,
+    job: Job,
+) -> anyhow::Result<Timed>
+    ensures { Keeps [] hub.old hub.new }
+{
+    let server = hub.server_builder().create(hub)?;
+    let done = serve(rt, alloc, hub, &server, shape, job);
+    server.release(hub);
+    done
+}
+
+/// Lets clients come and leave, and runs a job with one that is created afterwards.
 fn serve<R: Clock>(
     rt: &R,
     alloc: Global,
@@ -274,8 +290,5 @@ pub fn time_crowd<R: Clock>(
         ..LIMITS
     };
     let mut hub = Hub::new(alloc, limits, UniqueNodeId(7))?;
-    let server = hub.server_builder().create(&mut hub)?;
-    let done = serve(rt, alloc, &mut hub, &server, shape, job);
-    server.release(&mut hub);
-    done
+    with_server(rt, alloc, &mut hub, shape, job)
 }

@@ -1,4 +1,4 @@
-//! The families of messages: a word, an element that is written where it lies, and a slice of words.
+//! The families of messages: a word, an element that is written in place, and a slice of words.
 #![tactic(auto, using(rr_ports::proofs::Frames::callers), unfolding(rr_ports::specs::Facts::Keeps, rr_ports::specs::Facts::IsFree))]
 
 ghost use Rattle.std.specs.Prelude.{◌<◌, ◌≤◌, ◌+◌, IfOk, []};
@@ -48,7 +48,7 @@ pub trait Family: WriteBody {
         ensures keeps { Keeps [] hub.old hub.new }
         ensures numbers { numbers_left hub.old ≤ numbers_left hub.new + 1 };
 
-    /// Sends a response that is filled with one more than the last word that came.
+    /// Sends a response that is filled with the last received word plus one.
     fn respond(
         hub: &mut Hub<Self>,
         active: &ActiveRequest<Self>,

@@ -1,4 +1,4 @@
-//! A server that waits for requests while none come.
+//! A server that waits for requests while none arrive.
 ghost use Rattle.std.specs.Prelude.{◌≡◌};
 
 use crate::threads::{Hub, HubSeat, OpenedHub};
@@ -16,7 +16,7 @@ use std::time::{Clock, Duration};
 /// Why a wait of a server ended.
 type Ended = WaitError<CallError<ReceiveError>>;
 
-/// Waits for a request. Returns why none came.
+/// Waits for a request. Returns why none arrived.
 fn wait<N: Naming, R: Wait>(
     rt: &R,
     hub: &Hub<N>,
@@ -38,7 +38,7 @@ fn close_later<N: Naming, R: Clock>(rt: &R, hub: &Hub<N>) {
     hub.close();
 }
 
-/// Lets a server wait until the hub is closed. Returns why its wait ended.
+/// Makes a server wait until the hub is closed. Returns why its wait ended.
 fn wait_for_close<N: Naming, R: Threads + Wait + Clock + Sync>(
     rt: &R,
     opened: OpenedHub,
@@ -64,7 +64,7 @@ fn wait_for_close<N: Naming, R: Threads + Wait + Clock + Sync>(
     }
 }
 
-/// Lets a server wait for a second, and checks that the close of the hub ended its wait.
+/// Makes a server wait for a second, and checks that the close of the hub ended its wait.
 pub fn idle<R: Threads + Wait + Clock + Sync>(rt: &R, alloc: Global) -> anyhow::Result<()> {
     let opened = OpenedHub::new(alloc, Limits::SMALLEST, UniqueNodeId(7))?;
     match wait_for_close::<Brand, R>(rt, opened)? {

@@ -4,12 +4,12 @@ ghost use Rattle.std.specs.Prelude.{◌≡◌};
 use crate::rows::Timed;
 use crate::shared::TURNS;
 use anyhow::{anyhow, bail, ensure};
-use rr_commands::Reply;
 use rr_locked::{
     Bells, CREATE_CLIENT, CREATE_SERVER, HubCommand, LockedHub, PARTS, Seat, Submit, WorkerError,
     payload, receive, release, send_copy, take_response,
 };
 use rr_ports::{Limits, UniqueNodeId};
+use rr_protocol::Reply;
 use std::alloc::Global;
 use std::marker::Brand;
 use std::sync::Wait;
@@ -43,7 +43,8 @@ fn with_port<L: Ledger, R: Wait>(
     }
 }
 
-/// Asks. One answers that is of this thread; else it waits at the bell before the first receive. Returns the sum of the answers.
+/// Asks. A server of the same thread answers; otherwise it waits at the bell before the first receive. Returns the
+/// sum of the answers.
 fn ask_all<L: Ledger, R: Wait>(
     rt: &R,
     hub: &LockedHub<L>,
@@ -66,7 +67,7 @@ fn ask_all<L: Ledger, R: Wait>(
     Ok(sum)
 }
 
-/// Receives a request, and answers with the number after the one that it says.
+/// Receives a request, and answers with its number plus one.
 fn answer<L: Ledger, R: Wait>(
     rt: &R,
     hub: &LockedHub<L>,
@@ -79,7 +80,8 @@ fn answer<L: Ledger, R: Wait>(
     release(rt, hub, &mut post.seat, active)
 }
 
-/// Answers, and waits at the bell before each receive. It rings for a response when all is done, so that no thread waits at the lock.
+/// Answers, and waits at the bell before each receive. It rings for a response at the end of its calls, so that no
+/// thread waits at the lock.
 fn answer_all<L: Ledger, R: Wait>(
     rt: &R,
     hub: &LockedHub<L>,
@@ -115,6 +117,24 @@ fn take_turns<L: Ledger + Send + Sync, R: Threads + Wait + Sync>(
     sum
 }
 
+/// Creates two callers with a port each, and times their round trips.
+fn timed<L: Ledger + Send + Sync, R: Threads + Wait + Sync + Clock>(
+    rt: &R,
+    hub: &LockedHub<L>,
+    threads: u64,
+    trips: u64,
+) -> anyhow::Result<Timed> {
+    let asking = with_port(rt, hub, CREATE_CLIENT, trips)?;
+    let answering = with_port(rt, hub, CREATE_SERVER, trips)?;
+    let start = Instant::now(rt)?;
+    let sum = if threads > 1 {
+        take_turns(rt, hub, asking, answering)?
+    } else {
+        ask_all(rt, hub, &Bells::new(), asking, Some(answering))?
+    };
+    Timed::since(rt, start, sum)
+}
+
 /// Times round trips, and checks that each call is in the history.
 fn pair<L: Ledger + Send + Sync, R: Threads + Wait + Sync + Clock>(
     rt: &R,
@@ -128,15 +148,7 @@ fn pair<L: Ledger + Send + Sync, R: Threads + Wait + Sync + Clock>(
     requires many { blank.parts ≡ 1048578 }
 {
     let hub = LockedHub::<L>::new(alloc, Limits::SMALLEST, UniqueNodeId(7), blank)?;
-    let asking = with_port(rt, &hub, CREATE_CLIENT, trips)?;
-    let answering = with_port(rt, &hub, CREATE_SERVER, trips)?;
-    let start = Instant::now(rt)?;
-    let sum = if threads > 1 {
-        take_turns(rt, &hub, asking, answering)?
-    } else {
-        ask_all(rt, &hub, &Bells::new(), asking, Some(answering))?
-    };
-    let timed = Timed::since(rt, start, sum)?;
+    let timed = timed(rt, &hub, threads, trips)?;
     let noted = hub.finish(Vec::new(alloc)).history().len() as u64;
     let calls = trips.wrapping_mul(CALLS_OF_A_TRIP).wrapping_add(2);
     ensure!(noted == calls, "{noted} calls were noted");

@@ -37,7 +37,7 @@ struct At<'a, N: Naming, R> {
     seat: HubSeat<N>,
 }
 
-/// Sends a slice of a number. Returns `None` if that is refused.
+/// Sends a slice of a number. Returns `None` if the send is refused.
 fn ask<N: Naming, R: Wait>(
     at: &mut At<N, R>,
     client: &Client<N, u64>,
@@ -50,7 +50,7 @@ fn ask<N: Naming, R: Wait>(
     request.send(at.hub, at.rt, &mut at.seat).ok()
 }
 
-/// Receives a request. Returns `None` if none comes.
+/// Receives a request. Returns `None` if none arrives.
 fn heard<N: Naming, R: Wait>(
     at: &mut At<N, R>,
     server: &Server<N, u64>,
@@ -58,7 +58,7 @@ fn heard<N: Naming, R: Wait>(
     server.receive(at.hub, at.rt, &mut at.seat).ok()?
 }
 
-/// Answers a request with a slice of the number after its last one, and releases it. A refusal is found by the sum.
+/// Answers a request with a slice of its last number plus one, and releases it. A refusal shows in the sum.
 fn respond<N: Naming, R: Wait>(at: &mut At<N, R>, active: ActiveRequest<N, u64>) {
     let asked = active.read(at.hub, at.rt, &mut at.seat, |numbers| last_of(numbers));
     if let Ok(response) = active.loan_slice_uninit(at.hub, at.rt, &mut at.seat, LEN) {
@@ -68,7 +68,7 @@ fn respond<N: Naming, R: Wait>(at: &mut At<N, R>, active: ActiveRequest<N, u64>)
     active.release(at.hub, at.rt, &mut at.seat);
 }
 
-/// Receives a response, and releases it. Returns its last number, or `None` if none comes.
+/// Receives a response, and releases it. Returns its last number, or `None` if none arrives.
 fn take<N: Naming, R: Wait>(at: &mut At<N, R>, pending: &PendingResponse<N, u64>) -> Option<u64> {
     let response = pending.receive(at.hub, at.rt, &mut at.seat).ok()??;
     let answer = response.read(at.hub, at.rt, &mut at.seat, |numbers| last_of(numbers));

@@ -1,4 +1,4 @@
-//! The rows: what is timed, under which name, and how often.
+//! The rows: the timed operations, their names and their repetitions.
 use crate::crowd::{ALONE, CLIENTS, HANDLES, Job, MOST, PASSED, POOLS, SERVERS, Shape, time_crowd};
 use crate::locked::time_pair;
 use crate::pages::time_pages;
@@ -13,10 +13,10 @@ use std::sync::Wait;
 use std::thread::Threads;
 use std::time::{Clock, Instant};
 
-/// What the answers came to, and how long they took.
+/// The sum of the answers, and the time that they took.
 #[derive(Clone, Copy)]
 pub struct Timed {
-    /// The sum of the answers. Each is one more than what was asked, and 0, 1, .. were asked.
+    /// The sum of the answers. Each is its question plus one, and the questions are 0, 1, ..
     pub sum: u64,
     /// In nanoseconds.
     pub nanos: u128,
@@ -30,33 +30,42 @@ impl Timed {
     }
 }
 
-/// What makes the round trips of a row.
+/// Adds the results of threads.
+pub fn sum_of(sums: Vec<anyhow::Result<u64>>) -> anyhow::Result<u64> {
+    let mut total = 0u64;
+    for sum in sums {
+        total = total.wrapping_add(sum?);
+    }
+    Ok(total)
+}
+
+/// The kind of round trips of a row.
 #[derive(Clone, Copy)]
 pub enum Work {
     /// A client and a server of `rr_ports`, whose messages are words.
     Word,
-    /// The same of elements of 4,096 bytes, which are written where they lie.
+    /// The same with elements of 4,096 bytes, which are written in place.
     Page,
-    /// The same of 65,536 bytes.
+    /// The same with elements of 65,536 bytes.
     Large,
-    /// The same of slices of words.
+    /// The same with slices of words.
     Slice,
-    /// The same of words, among other ports and handles.
+    /// The same with words, among other ports and handles.
     Crowd(Shape),
-    /// Receives there, where nothing waits.
+    /// Receives from empty queues there.
     Idle(Shape),
     /// Submissions at a hub of `rr_locked`.
     Pair,
     /// Submissions at a hub of `rr_shared`.
     Shared,
-    /// Clients and servers of `rr_shared_ports`, and how many of each.
+    /// Clients and servers of `rr_shared_ports`, and the number of each.
     Ports(Pace, usize, usize),
     /// A client and a server there in one thread, whose messages are slices of 64 KiB.
     Pages,
 }
 
-/// A row: its name, how many threads it has, the bytes of a message, how often each client asks, how many answers come where each
-/// asks once, and what makes the round trips.
+/// A row: its name, its number of threads, the bytes of a message, the questions of each client, the number of
+/// answers if each asks once, and the kind of its round trips.
 #[derive(Clone, Copy)]
 pub struct Row(
     pub &'static str,
@@ -115,7 +124,7 @@ pub const GROWN: [Row; 9] = [
     Row("ports-clients-idle", 1, 8, 10_000, 1, Work::Idle(CLIENTS)),
 ];
 
-/// Those of `grow` that take long to make.
+/// The rows of `grow` that take long to make.
 pub const LARGEST: [Row; 2] = [
     Row("ports-many-clients", 1, 8, 10_000, 1, Work::Crowd(MOST)),
     Row("ports-many-clients-idle", 1, 8, 10_000, 1, Work::Idle(MOST)),
@@ -124,7 +133,7 @@ pub const LARGEST: [Row; 2] = [
 /// How often each row is timed.
 const SAMPLES: usize = 7;
 
-/// Has each client of a row ask `trips` times.
+/// Makes each client of a row ask `trips` times.
 fn made<R: Threads + Wait + Sync + Clock>(
     rt: &R,
     alloc: Global,
@@ -148,7 +157,7 @@ fn made<R: Threads + Wait + Sync + Clock>(
     }
 }
 
-/// Has each client of a row ask `trips` times, and checks the sum of the answers.
+/// Makes each client of a row ask `trips` times, and checks the sum of the answers.
 fn checked<R: Threads + Wait + Sync + Clock>(
     rt: &R,
     alloc: Global,
@@ -166,7 +175,7 @@ fn checked<R: Threads + Wait + Sync + Clock>(
     Ok(timed)
 }
 
-/// Has each client of each row ask `trips` times, and prints the sums of the answers.
+/// Makes each client of each row ask `trips` times, and prints the sums of the answers.
 pub fn make<R: Threads + Wait + Sync + Clock + Print>(
     rt: &R,
     alloc: Global,
@@ -183,7 +192,7 @@ pub fn make<R: Threads + Wait + Sync + Clock + Print>(
     Ok(())
 }
 
-/// Prints samples of each row: its name, threads, bytes, the nanoseconds, and how many answers came in them.
+/// Prints samples of each row: its name, threads, bytes, the nanoseconds, and the number of answers in that time.
 pub fn sample<R: Threads + Wait + Sync + Clock + Print>(
     rt: &R,
     alloc: Global,

@@ -1,7 +1,7 @@
-//! Round trips by commands at a shared hub, which one thread submits or several, of which as many ask as answer.
+//! Round trips by commands at a shared hub, submitted by one thread, or by several of which half ask and half answer.
 ghost use Rattle.std.specs.Prelude.{◌≡◌};
 
-use crate::rows::Timed;
+use crate::rows::{Timed, sum_of};
 use anyhow::{bail, ensure};
 use rr_locked::{Bell, Bells, CREATE_CLIENT, CREATE_SERVER, HubCommand};
 use rr_ports::{Limits, NoHandler, UniqueNodeId};
@@ -31,7 +31,7 @@ struct At<'a, N: Naming, R> {
     port: u64,
 }
 
-/// Returns the number that comes back, or 0 if there is none.
+/// Returns the number of the answer, or 0 if there is none.
 fn call<N: Naming, R: Wait>(at: &mut At<N, R>, command: HubCommand) -> anyhow::Result<u64> {
     match at.hub.submit(at.rt, &mut at.seat, command) {
         Reply::Created(number)
@@ -51,7 +51,7 @@ fn wait(bell: &Bell, rings: u64) -> anyhow::Result<()> {
     Ok(())
 }
 
-/// Receives until something comes. Returns its number.
+/// Receives until a message arrives. Returns its number.
 fn receive<N: Naming, R: Wait>(
     at: &mut At<N, R>,
     bell: &Bell,
@@ -71,7 +71,7 @@ fn receive<N: Naming, R: Wait>(
     bail!("nothing came")
 }
 
-/// Receives a request, and answers with the number after the one that it says.
+/// Receives a request, and answers with its number plus one.
 fn answer<N: Naming, R: Wait>(at: &mut At<N, R>, bell: &Bell) -> anyhow::Result<()> {
     let server = at.port;
     let active = receive(at, bell, server)?;
@@ -81,7 +81,7 @@ fn answer<N: Naming, R: Wait>(at: &mut At<N, R>, bell: &Bell) -> anyhow::Result<
     Ok(())
 }
 
-/// Receives a response, and releases it. Returns the number that it says.
+/// Receives a response, and releases it. Returns the response's number.
 fn take<N: Naming, R: Wait>(at: &mut At<N, R>, bell: &Bell, pending: u64) -> anyhow::Result<u64> {
     let response = receive(at, bell, pending)?;
     let answer = call(at, Command::Payload(response))?;
@@ -89,8 +89,8 @@ fn take<N: Naming, R: Wait>(at: &mut At<N, R>, bell: &Bell, pending: u64) -> any
     Ok(answer)
 }
 
-/// Asks all servers `trips` times. If one of them is this thread's, it answers here; else this waits at the bell before its first
-/// receive. Returns the sum of the answers.
+/// Asks all servers `trips` times. If one of them is this thread's, it answers here; otherwise this waits at the bell
+/// before its first receive. Returns the sum of the answers.
 fn ask_all<'a, N: Naming, R: Wait>(
     at: &mut At<'a, N, R>,
     mut own: Option<At<'a, N, R>>,
@@ -147,7 +147,7 @@ fn with_port<'a, N: Naming, R: Wait>(
     Ok(at)
 }
 
-/// Asks, once all servers are there, if the place is even, and else answers. Returns the sum of the answers that come.
+/// Asks once all servers exist if the place is even, and otherwise answers. Returns the sum of the received answers.
 fn work<'a, N: Naming, R: Wait>(
     rt: &'a R,
     hub: &'a Hub<N>,
@@ -186,11 +186,14 @@ fn together<N: Naming, R: Threads + Wait + Sync>(
         threads as usize,
         &|place| work(rt, hub, rung, place, side, trips),
     )?;
-    let mut total = 0u64;
-    for sum in sums {
-        total = total.wrapping_add(sum?);
-    }
-    Ok(total)
+    sum_of(sums)
+}
+
+/// Makes round trips by one thread. Returns the sum of the answers.
+fn alone<N: Naming, R: Wait>(rt: &R, hub: &Hub<N>, trips: u64) -> anyhow::Result<u64> {
+    let mut at = with_port(rt, hub, CREATE_CLIENT)?;
+    let own = with_port(rt, hub, CREATE_SERVER)?;
+    ask_all(&mut at, Some(own), &Bells::new(), 1, trips)
 }
 
 /// Makes round trips by one thread, or by more together. Returns the sum of the answers.
@@ -207,11 +210,10 @@ fn shared<N: Naming, R: Threads + Wait + Sync>(
 {
     let hub = opened.named::<N>();
     if threads == 1 {
-        let mut at = with_port(rt, &hub, CREATE_CLIENT)?;
-        let own = with_port(rt, &hub, CREATE_SERVER)?;
-        return ask_all(&mut at, Some(own), &Bells::new(), 1, trips);
+        alone(rt, &hub, trips)
+    } else {
+        together(rt, alloc, &hub, threads, trips)
     }
-    together(rt, alloc, &hub, threads, trips)
 }
 
 /// Times round trips of `threads` threads, creation of the ports and start of the threads included.

@@ -1,5 +1,5 @@
-//! Random calls of clients and servers at one hub with narrow queues, each in a thread of its own, and a thread that watches whether they
-//! get on.
+//! Random calls of clients and servers at one hub with narrow queues, each in a thread of its own, and a thread that
+//! watches whether they make progress.
 ghost use Rattle.std.specs.Prelude.{◌≡◌};
 
 use crate::threads::{Hub, HubSeat, OpenedHub};
@@ -25,20 +25,20 @@ struct At<'a, N: Naming, R> {
     seat: HubSeat<N>,
     random: SplitMix64,
     place: u64,
-    /// Changes as threads get on.
+    /// Changes as threads make progress.
     steps: &'a AtomicU64,
     /// How many clients have not ended.
     asking: &'a AtomicU64,
 }
 
 impl<N: Naming, R: Wait + Clock> At<'_, N, R> {
-    /// Returns a random number below this one. Notes that the thread gets on.
+    /// Returns a random number below `most`. Records that the thread makes progress.
     fn below(&mut self, most: u64) -> u64 {
         self.steps.fetch_add(1, Ordering::SeqCst);
         self.random.next_u64() % most.max(1)
     }
 
-    /// Sends about as many requests, by clients that come and leave.
+    /// Sends about this many requests, by clients that come and leave.
     fn ask_all(&mut self, requests: u64) -> anyhow::Result<()> {
         for first in 0..requests / 16 {
             let factory = self.hub.client_builder(self.rt);
@@ -99,7 +99,7 @@ impl<N: Naming, R: Wait + Clock> At<'_, N, R> {
             let factory = factory.backpressure_strategy(BackpressureStrategy::RetryUntilDelivered);
             let server = self.hub.create_server(self.rt, &mut self.seat, factory)?;
             let is_closed = self.answer_some(&server);
-            // Requests come meanwhile, which nobody answers.
+            // Requests that arrive meanwhile get no answer.
             thread::sleep(self.rt, Duration::from_micros(self.below(2_000)));
             server.release(self.hub, self.rt, &mut self.seat);
             if is_closed? {
@@ -124,7 +124,7 @@ impl<N: Naming, R: Wait + Clock> At<'_, N, R> {
         Ok(false)
     }
 
-    /// Sends up to three answers. For each second one it doesn't wait until there is room.
+    /// Sends up to three answers. For every second one it doesn't wait until there is room.
     fn answer(&mut self, active: &ActiveRequest<N, u64>) -> anyhow::Result<()> {
         let asked = active.payload_copy(self.hub, self.rt, &mut self.seat);
         let first = asked
@@ -148,7 +148,8 @@ impl<N: Naming, R: Wait + Clock> At<'_, N, R> {
         Ok(())
     }
 
-    /// Closes the hub and fails once nobody gets on for five seconds: then a thread sleeps that should have been woken.
+    /// Closes the hub and fails if no thread makes progress for five seconds: then a thread sleeps that should have
+    /// been woken.
     fn watch(&mut self) -> anyhow::Result<()> {
         let (mut steps, mut quiet) = (0u64, 0u64);
         for _ in self.rt.forever() {
@@ -187,7 +188,15 @@ impl<N: Naming, R: Wait + Clock> At<'_, N, R> {
     }
 }
 
-/// Lets as many clients as the hub may have send requests to as many servers.
+/// Fails if a thread failed.
+fn all_well(ends: Vec<anyhow::Result<()>>) -> anyhow::Result<()> {
+    for end in ends {
+        end?;
+    }
+    Ok(())
+}
+
+/// Runs the maximum of clients of the hub, which send requests to the maximum of servers.
 fn together<N: Naming, R: Threads + Wait + Clock + Sync>(
     rt: &R,
     alloc: Global,
@@ -214,14 +223,12 @@ fn together<N: Naming, R: Threads + Wait + Clock + Sync>(
         }
         .work(thread, requests)
     };
-    for end in thread::map_indices(rt, alloc, side.saturating_mul(2).saturating_add(1), &work)? {
-        end?;
-    }
-    Ok(())
+    let threads = side.saturating_mul(2).saturating_add(1);
+    all_well(thread::map_indices(rt, alloc, threads, &work)?)
 }
 
-/// Has a client and a server make random calls at a hub with queues of two, which don't overflow, and then four of each, until each
-/// client's thread has sent about as many requests.
+/// Runs a client and a server that make random calls at a hub with queues of two, which don't overflow, and then four
+/// of each, until each client's thread has sent about this many requests.
 pub fn stress<R: Threads + Wait + Clock + Sync>(
     rt: &R,
     alloc: Global,

@@ -1,7 +1,8 @@
-//! Round trips of numbers through ports that threads share: by one thread, or by clients and servers, each in a thread of its own.
+//! Round trips of numbers through ports that threads share: by one thread, or by clients and servers, each in a
+//! thread of its own.
 ghost use Rattle.std.specs.Prelude.{◌≡◌};
 
-use crate::rows::Timed;
+use crate::rows::{Timed, sum_of};
 use crate::shared::TURNS;
 use rand_core::{Rng, SeedableRng};
 use rand_xoshiro::SplitMix64;
@@ -27,14 +28,14 @@ pub type OpenedHub = Opened<u64, (), u64, ()>;
 /// A seat at it.
 pub type HubSeat<N> = Seat<N, u64, (), u64, ()>;
 
-/// How a client and a server wait for each other.
+/// The ways in which a client and a server wait for each other.
 #[derive(Clone, Copy)]
 pub enum Pace {
-    /// Not at all: they are of one thread.
+    /// Not at all: both belong to one thread.
     Alone,
     /// By `call` and `serve`.
     Call,
-    /// They sleep until something comes.
+    /// They sleep until a message arrives.
     Sleep,
     /// The same, and they also sleep at random times.
     Nap,
@@ -62,7 +63,7 @@ fn nap<N: Naming, R: Clock>(at: &mut At<N, R>) {
     }
 }
 
-/// Receives a request. Returns `None` if none comes.
+/// Receives a request. Returns `None` if none arrives.
 fn heard<N: Naming, R: Wait>(
     at: &mut At<N, R>,
     server: &Server<N, u64>,
@@ -73,7 +74,7 @@ fn heard<N: Naming, R: Wait>(
     }
 }
 
-/// Answers a request with the number after the one that it says. Returns whether one came.
+/// Answers a request with its number plus one. Returns whether there was one.
 fn answer<N: Naming, R: Wait + Clock>(at: &mut At<N, R>, server: &Server<N, u64>) -> bool {
     if matches!(at.pace, Pace::Call) {
         return server
@@ -84,18 +85,18 @@ fn answer<N: Naming, R: Wait + Clock>(at: &mut At<N, R>, server: &Server<N, u64>
         return false;
     };
     nap(at);
-    // A refusal is found by the sum.
+    // A refusal shows in the sum.
     let _ = active.answer_with(at.hub, at.rt, &mut at.seat, |asked| asked.wrapping_add(1));
     true
 }
 
-/// Receives a response and releases it. Returns what it says, or `None` if none comes.
+/// Receives a response and releases it. Returns its number, or `None` if none arrives.
 fn take<N: Naming, R: Wait>(at: &mut At<N, R>, pending: &PendingResponse<N, u64>) -> Option<u64> {
     let response = pending.receive_wait(at.hub, at.rt, &mut at.seat).ok()??;
     Some(response.into_payload(at.hub, at.rt, &mut at.seat))
 }
 
-/// Creates a server, which answers until the hub is closed. It rings once it is there.
+/// Creates a server, which answers until the hub is closed. It rings once it exists.
 fn serve<N: Naming, R: Wait + Clock>(mut at: At<N, R>) -> anyhow::Result<u64> {
     let servers = at.hub.server_builder(at.rt);
     let server = at.hub.create_server(at.rt, &mut at.seat, servers)?;
@@ -197,7 +198,7 @@ fn inquire<N: Naming, R: Wait + Clock>(mut at: At<N, R>, trips: u64) -> anyhow::
     sum
 }
 
-/// Does what a thread does: asks if its place is one of the clients', and else answers.
+/// Runs one thread: asks if its place is one of the clients', and otherwise answers.
 fn work<'a, N: Naming, R: Wait + Clock>(
     rt: &'a R,
     hub: &'a Hub<N>,
@@ -225,7 +226,7 @@ fn work<'a, N: Naming, R: Wait + Clock>(
     }
 }
 
-/// Lets as many clients as the hub may have ask as many servers. Returns the sum of the answers that came.
+/// Runs the maximum of clients of the hub, which ask the maximum of servers. Returns the sum of the received answers.
 fn together<N: Naming, R: Threads + Wait + Clock + Sync>(
     rt: &R,
     alloc: Global,
@@ -253,14 +254,11 @@ fn together<N: Naming, R: Threads + Wait + Clock + Sync>(
         threads,
         &|place| work(rt, &hub, &created, &ended, pace, place, trips),
     )?;
-    let mut total = 0u64;
-    for sum in sums {
-        total = total.wrapping_add(sum?);
-    }
-    Ok(total)
+    sum_of(sums)
 }
 
-/// Times `trips` round trips of each client with all servers, creation of the ports and start of the threads included.
+/// Times `trips` round trips of each client with all servers, creation of the ports and start of the threads
+/// included.
 pub fn time_threads<R: Threads + Wait + Clock + Sync>(
     rt: &R,
     alloc: Global,

@@ -27,10 +27,11 @@ pub const LIMITS: Limits = Limits {
     ..Limits::SMALLEST
 };
 
-/// The round trips before those that are timed, which use the memory for the first time.
+/// The round trips before the timed ones, which touch the memory for the first time.
 const FIRST: u64 = 10;
 
-/// Why a round trip failed. It is small: to clear the memory of `anyhow::Error`s takes as many instructions as the trip.
+/// Why a round trip failed. It is small, since clearing the memory of an `anyhow::Error` takes as many instructions
+/// as the trip.
 #[derive(Debug, Drop, Error)]
 pub enum TripError {
     /// The send of the request was refused.
@@ -42,7 +43,7 @@ pub enum TripError {
     /// A receive was refused.
     #[error("{0}")]
     Receive(#[from] ReceiveError),
-    /// No message came.
+    /// No message arrived.
     #[error("no message came")]
     NothingCame,
     /// No number is left for a handle.
@@ -50,7 +51,8 @@ pub enum TripError {
     NoNumbersLeft,
 }
 
-/// Returns an error. Lets the compiler place what leads to it beside the path of a whole round trip, as it does with a panic.
+/// Returns an error. Lets the compiler move the code that leads to it out of the path of a whole round trip, as it
+/// does with a panic.
 #[cold]
 #[inline(never)]
 fn unlikely(error: TripError) -> TripError {
@@ -75,7 +77,7 @@ fn answer<B: Family>(hub: &mut Hub<B>, server: &Server<B>, len: usize) -> Result
     Ok(())
 }
 
-/// Answers a request and receives the response. Returns the word that came.
+/// Answers a request and receives the response. Returns the response's word.
 #[inline(always)]
 fn exchange<B: Family>(
     hub: &mut Hub<B>,
@@ -95,7 +97,7 @@ fn exchange<B: Family>(
     }
 }
 
-/// Makes a round trip with a word. Returns the word that came back.
+/// Makes a round trip with a word. Returns the response's word.
 #[inline(always)]
 fn round_trip<B: Family>(
     hub: &mut Hub<B>,
@@ -122,7 +124,8 @@ fn round_trip<B: Family>(
     }
 }
 
-/// Lets a server look for a request, and releases it if one comes. Returns a number if none comes, and else 0.
+/// Makes a server receive, and releases the request if one arrives. Returns a number if none arrives, and otherwise
+/// 0.
 #[inline(always)]
 pub fn look<B: Family>(hub: &mut Hub<B>, server: &Server<B>, number: u64) -> Result<u64, TripError>
     requires { Names hub.old server.now kind.Server }
@@ -140,7 +143,7 @@ pub fn look<B: Family>(hub: &mut Hub<B>, server: &Server<B>, number: u64) -> Res
     }
 }
 
-/// Lets servers look for requests. Returns the sum of the numbers of those to whom none comes.
+/// Makes servers receive. Returns the sum of the numbers of those that received nothing.
 #[inline(always)]
 pub fn look_around<B: Family>(
     hub: &mut Hub<B>,
@@ -157,7 +160,7 @@ pub fn look_around<B: Family>(
     Ok(sum)
 }
 
-/// Makes round trips with 0, 1, .., and lets the onlookers look after each. Returns the sum of the words that come back.
+/// Makes round trips with 0, 1, .., and lets the onlookers poll after each. Returns the sum of the responses' words.
 #[inline(never)]
 pub fn trips<B: Family>(
     hub: &mut Hub<B>,
@@ -207,6 +210,29 @@ pub fn timed<B: Family, R: Clock>(
     Timed::since(rt, start, sum)
 }
 
+/// Creates a client and a server, and times round trips of messages of `len` elements.
+fn with_ports<B: Family, R: Clock>(
+    rt: &R,
+    alloc: Global,
+    hub: &mut Hub<B>,
+    len: usize,
+    count: u64,
+) -> anyhow::Result<Timed> {
+    let server = B::server(hub, len)?;
+    let done = match B::client(hub, len) {
+        Ok(client) => {
+            let nobody = Vec::new(alloc);
+            let done = timed(rt, hub, &client, &server, &nobody, len, count);
+            nobody.destroy_empty();
+            client.release(hub);
+            done
+        }
+        Err(error) => Err(error.into()),
+    };
+    server.release(hub);
+    done
+}
+
 /// Times round trips of messages of `len` elements by one client and one server.
 pub fn time_ports<B: Family, R: Clock>(
     rt: &R,
@@ -215,17 +241,5 @@ pub fn time_ports<B: Family, R: Clock>(
     count: u64,
 ) -> anyhow::Result<Timed> {
     let mut hub = Hub::<B>::new(alloc, LIMITS, UniqueNodeId(7))?;
-    let server = B::server(&mut hub, len)?;
-    let done = match B::client(&mut hub, len) {
-        Ok(client) => {
-            let nobody = Vec::new(alloc);
-            let done = timed(rt, &mut hub, &client, &server, &nobody, len, count);
-            nobody.destroy_empty();
-            client.release(&mut hub);
-            done
-        }
-        Err(error) => Err(error.into()),
-    };
-    server.release(&mut hub);
-    done
+    with_ports(rt, alloc, &mut hub, len, count)
 }

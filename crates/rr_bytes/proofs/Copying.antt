@@ -3,7 +3,7 @@ use Rattle.std.proofs.Common.{◌≡◌, ℕ, false, List, Some, None, Ok, Resul
 use Rattle.std.specs.Prelude.{◌==◌, option_and_then, IsSomeAnd}
 use Rattle.std.specs.Option.{option_map_or}
 use Rattle.std.specs.FinMap as fin_map
-use Rattle.rr_map_laws.proofs.MapLaws.{get-insert_same}
+use Rattle.rr_table.proofs.MapLaws.{get-insert_same}
 use Rattle.rr_protocol.specs.declared.kind.Kind.{Kind}
 use Rattle.rr_protocol.specs.declared.settings.BackpressureAction.{BackpressureAction}
 use Rattle.rr_protocol.specs.Loans.{LoansRequest, LoansResponse}
@@ -11,7 +11,7 @@ use Rattle.rr_protocol.specs.Messages.{Handle, RequestMessage, ResponseMessage, 
 use Rattle.rr_protocol.specs.Queries.{kind_at}
 use Rattle.rr_protocol.specs.State.{State, client_at, handle_at, numbers_left, with_changed}
 use Rattle.rr_protocol.specs.Writing.{after_init, with_elements, with_request_content, with_response_content}
-use Rattle.rr_commands.specs.Step.{with_complete}
+use Rattle.rr_protocol.specs.Step.{with_complete}
 use Rattle.rr_laws.proofs.Opening.{some_and, open_active}
 use Rattle.rr_checked.specs.declared.refusal.Refusal.{Refusal}
 use Rattle.rr_checked.specs.declared.refusal.Refusal.TheVariants as refusal

@@ -2,7 +2,7 @@
 use Rattle.std.proofs.Common.{◌≡◌, ◌⊎◌, ℕ, List, length, Option, Some, None, Result, Ok, Err, refl, sym, ap, ◌∙◌, subst, ⊎_elim, inl, inr}
 use Rattle.std.specs.Prelude.{IfOk, IfSome, IsSomeAnd}
 use Rattle.std.specs.Option.{option_map_or}
-use Rattle.rr_map_laws.proofs.MapLaws.{get-insert_same}
+use Rattle.rr_table.proofs.MapLaws.{get-insert_same}
 use Rattle.rr_slots.specs.declared.family.Family.TheVariants.{Sliced}
 use Rattle.rr_protocol.specs.declared.kind.Kind.{Kind}
 use Rattle.rr_protocol.specs.declared.settings.BackpressureAction.{BackpressureAction}
@@ -10,10 +10,10 @@ use Rattle.rr_protocol.specs.Messages.{Handle, RequestMutUninit, ActiveRequest, 
 use Rattle.rr_protocol.specs.Queries.{kind_at, kind_of}
 use Rattle.rr_protocol.specs.State.{State, active_at, handle_at, pending_at}
 use Rattle.rr_protocol.specs.Writing.{after_init, with_elements, with_request_content, with_response_content}
-use Rattle.rr_commands.specs.declared.command.Command.{Command}
-use Rattle.rr_commands.specs.declared.reply.Reply.{Reply}
-use Rattle.rr_commands.specs.Refusals.{content_in}
-use Rattle.rr_commands.specs.Step.{Step, with_content, with_complete}
+use Rattle.rr_protocol.specs.declared.command.Command.{Command}
+use Rattle.rr_protocol.specs.declared.reply.Reply.{Reply}
+use Rattle.rr_protocol.specs.Refusals.{content_in}
+use Rattle.rr_protocol.specs.Step.{Step, with_content, with_complete}
 use Rattle.rr_laws.specs.Reached.{IsReached}
 use Rattle.rr_laws.proofs.Histories.{step_acts}
 use Rattle.rr_laws.proofs.Naming.{handle_named}

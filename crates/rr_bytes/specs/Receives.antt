@@ -1,10 +1,10 @@
--- What a receive by number returns.
+-- The result of a receive by number.
 use Rattle.std.specs.Prelude.{◌≡◌, ℕ, Option, Some, None, Result, Ok, Err}
 use Rattle.rr_slots.specs.declared.family.Family.TheVariants.{Sliced}
 use Rattle.rr_protocol.specs.declared.settings.BackpressureAction.{BackpressureAction}
 use Rattle.rr_protocol.specs.State.{State}
-use Rattle.rr_commands.specs.declared.command.Command.{Command}
-use Rattle.rr_commands.specs.Step.{Step}
+use Rattle.rr_protocol.specs.declared.command.Command.{Command}
+use Rattle.rr_protocol.specs.Step.{Step}
 use Rattle.rr_checked.specs.declared.receives.Received.{Received}
 use Rattle.rr_checked.specs.declared.receives.Received.TheVariants as received_as
 use Rattle.rr_bytes.specs.declared.id.Id.{Id}
@@ -19,8 +19,11 @@ IsNamed (Ok None) (Ok None) = Unit {0}
 IsNamed (Err error) (Err named) = named ≡ error
 IsNamed what named = ⊥
 
-module _ {T H K : Type 0} (action : K → ℕ → ℕ → BackpressureAction) (IsDefaultElement : T → Type 0) (IsDefaultHeader : H → Type 0) where
-  -- what is received goes by its number
+module _ {T H K : Type 0} (action : K → ℕ → ℕ → BackpressureAction) (IsDefaultElement : T → Type 0)
+    (IsDefaultHeader : H → Type 0) where
+  -- a received message is named by its number
   abbrev pub Receives : State T H T H K → ℕ → Result (Option Id) Refusal → State T H T H K → Type 0
   Receives old n named new =
-      (what : Result (Option Received) Refusal) × Step action IsDefaultElement IsDefaultHeader Sliced old (Command.Receive n) (replied received what) new × IsNamed what named
+      (what : Result (Option Received) Refusal)
+      × Step action IsDefaultElement IsDefaultHeader Sliced old (Command.Receive n) (replied received what) new
+      × IsNamed what named

@@ -1,12 +1,13 @@
-//! By what a caller names a port or a handle.
+//! The id by which a caller names a port or a handle.
 ghost use Rattle.std.specs.Prelude.{◌≡◌};
 
 use rr_hub::HandleId;
 use rr_table::Place;
 
-/// The number of a port or a handle, and where a handle is looked for first. Not in iceoryx2.
+/// The number of a port or a handle, and the place to try first for a handle. Not in iceoryx2.
 ///
-/// Any values may be passed: a wrong number names nothing or something else, and a wrong place costs a walk over the handles.
+/// Any values may be passed: a wrong number names nothing or something else, and a wrong place costs a search of the
+/// handles.
 #[repr(C)]
 #[derive(Clone, Copy, Debug, PartialEq, Eq)]
 pub struct Id {
@@ -19,7 +20,7 @@ pub struct Id {
 }
 
 impl Id {
-    /// Returns what a caller keeps of a handle.
+    /// Returns the id of a handle.
     #[inline(always)]
     pub(crate) fn of(handle: &HandleId) -> Id
         ensures { result.number ≡ handle.now }
@@ -32,7 +33,7 @@ impl Id {
         }
     }
 
-    /// Returns what a caller keeps of a port.
+    /// Returns the id of a port.
     #[inline(always)]
     pub(crate) fn of_port(number: u64) -> Id
         ensures { result.number ≡ number }

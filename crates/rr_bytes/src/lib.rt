@@ -1,6 +1,7 @@
-//! A hub of slices whose calls take any number, for programs in other languages: nothing that they pass has to be proved.
+//! A hub of slices whose calls take any number, for programs in other languages: their arguments need no proof.
 //!
-//! Each call tests what it is passed, and is refused by name where its caller erred. Contracts see the state of the message machine.
+//! Each call tests its arguments, and is refused with a named error if its caller erred. Contracts see the state of
+//! the message machine.
 #![tactic(auto)]
 
 mod id;

@@ -19,7 +19,8 @@ mod writes;
 pub use copies::SentCopy;
 pub use writes::WriteRefusal;
 
-/// A hub of slices, of any element and user header that can be copied. Contracts see the state of the message machine. Not in iceoryx2.
+/// A hub of slices, of any element and user header that can be copied. Contracts see the state of the message
+/// machine. Not in iceoryx2.
 ///
 /// # Examples
 ///
@@ -52,12 +53,12 @@ impl<T: Copy + Default, H: Copy + Default, K: BackpressureFn> Model for Slices<T
 }
 
 impl<T: Copy + Default, H: Copy + Default, K: BackpressureFn> Slices<T, H, K> {
-    /// Makes a hub without ports. Takes no memory, so `OutOfMemory` never comes. Not in iceoryx2.
+    /// Makes a hub without ports. Takes no memory, so it never returns `OutOfMemory`. Not in iceoryx2.
     ///
     /// # Errors
     ///
     /// - `ZeroLimit` if a limit is below its least value.
-    /// - `LimitsTooLarge` if a worst-case size is more than a `usize` counts.
+    /// - `LimitsTooLarge` if a worst-case size overflows a `usize`.
     pub fn new(alloc: Global, limits: Limits, node_id: UniqueNodeId) -> Result<Self, HubCreateError>
         ensures { CreatesHub limits node_id.0 result }
     {
@@ -65,8 +66,8 @@ impl<T: Copy + Default, H: Copy + Default, K: BackpressureFn> Slices<T, H, K> {
         Ok(Slices { core })
     }
 
-    /// Returns what a number names: a client or a server whose value lives, or a handle. Returns `None` if it names nothing. Not in
-    /// iceoryx2.
+    /// Returns the kind of an id: a client or a server whose value lives, or a handle. Returns `None` if it names
+    /// nothing. Not in iceoryx2.
     pub fn kind(&self, id: &Id) -> Option<Kind>
         ensures { result ≡ kind_at self.now id.now.number }
     {

@@ -1,4 +1,4 @@
--- What an export does, returns and writes.
+-- The effect, the result and the outputs of an export.
 use Rattle.std.specs.Prelude.{◌≡◌, ◌⊎◌, ℕ, true, false, if◌then◌else◌, List, length, Option, Some, None, MatchOption, Result, Ok, Err}
 use Rattle.std.specs.Array.{AllOfLen}
 use Rattle.std.specs.Option.{option_map_or}
@@ -13,9 +13,9 @@ use Rattle.rr_protocol.specs.declared.settings.BackpressureStrategy.{Backpressur
 use Rattle.rr_protocol.specs.Creation.{CreatesHub}
 use Rattle.rr_protocol.specs.Limits.{has_zero_limit, is_too_large}
 use Rattle.rr_protocol.specs.State.{State}
-use Rattle.rr_commands.specs.declared.command.Command.{Command}
-use Rattle.rr_commands.specs.declared.reply.Reply.{Reply}
-use Rattle.rr_commands.specs.Step.{Step}
+use Rattle.rr_protocol.specs.declared.command.Command.{Command}
+use Rattle.rr_protocol.specs.declared.reply.Reply.{Reply}
+use Rattle.rr_protocol.specs.Step.{Step}
 use Rattle.rr_checked.specs.declared.refusal.Refusal.{Refusal}
 use Rattle.rr_checked.specs.declared.queries.MessageHeader.{MessageHeader}
 use Rattle.rr_checked.specs.declared.queries.MessageHeader.TheVariants as header_as
@@ -56,9 +56,10 @@ HubReceives old n answer new = Receives follows_strategy IsZero IsZeroHeader old
 
 -- a loan of a hub of bytes whose message is complete
 abbrev pub HubLoansInPlace : Hub → ℕ → ℕ → Result Id Refusal → Hub → Type 0
-HubLoansInPlace old n len answer new = LoansInPlace follows_strategy IsZero IsZeroHeader old.bytes n len answer new.bytes
+HubLoansInPlace old n len answer new =
+    LoansInPlace follows_strategy IsZero IsZeroHeader old.bytes n len answer new.bytes
 
--- what a hub of bytes tells of a send before it is made
+-- why a hub of bytes would refuse a send, before it is made
 abbrev pub HubTellsSendRefusal : Hub → ℕ → Result (Option Refusal) Refusal → Type 0
 HubTellsSendRefusal hub n answer = TellsSendRefusal follows_strategy hub.bytes n answer
 
@@ -73,7 +74,7 @@ received_code (Ok (Some id)) = 0
 received_code (Ok None) = 6
 received_code (Err refusal) = code refusal
 
--- what stands behind a pointer then
+-- the value that the pointer refers to afterwards
 abbrev pub written : {Value Error : Type 0} → Value → Result Value Error → Value
 written old (Ok value) = value
 written old (Err error) = old
@@ -90,9 +91,10 @@ module _ {Value : Type 0} (Holds : Result Value Refusal → Type 0) (n : ℕ) wh
 
   -- and its value is written
   abbrev pub Writes : Value → Value → Type 0
-  Writes old new = (answer : Result Value Refusal) × Holds answer × (n ≡ answer_code code answer) × (new ≡ written old answer)
+  Writes old new =
+      (answer : Result Value Refusal) × Holds answer × (n ≡ answer_code code answer) × (new ≡ written old answer)
 
--- the code of why no hub is made
+-- the code of the refusal to make a hub
 abbrev pub create_code : HubCreateError → ℕ
 create_code create.ZeroLimit = 60
 create_code create.LimitsTooLarge = 61
@@ -105,20 +107,24 @@ IsCreateCode (Err error) n = n ≡ create_code error
 
 -- a hub is made and handed over, if its block is found
 abbrev pub CreatesHeld : Limits → ℕ → ℕ → Type 0
-CreatesHeld limits node n = (made : Result (State ℕ (List ℕ) ℕ (List ℕ) NoHandler) HubCreateError) × CreatesHub limits node made × IsCreateCode made n
+CreatesHeld limits node n =
+    (made : Result (State ℕ (List ℕ) ℕ (List ℕ) NoHandler) HubCreateError) × CreatesHub limits node made
+    × IsCreateCode made n
 
--- why a pool's size isn't told, if it isn't: the limits make no hub, or it is past the largest `size_t`
+-- why a pool's size isn't returned, if it isn't: the limits make no hub, or it overflows a `size_t`
 abbrev pub pool_refusal : Limits → ℕ → Option HubCreateError
 pool_refusal limits size =
-    if has_zero_limit limits then Some create.ZeroLimit else (if is_too_large size then Some create.LimitsTooLarge else None)
+    if has_zero_limit limits then Some create.ZeroLimit else
+    (if is_too_large size then Some create.LimitsTooLarge else None)
 
 -- the size is written, or the code says why it isn't
 abbrev pub WritesPool : Limits → ℕ → ℕ → ℕ → ℕ → Type 0
 WritesPool limits size n before after =
-    MatchOption (pool_refusal limits size) ((n ≡ 0) × (after ≡ size)) (λ error. (n ≡ create_code error) × (after ≡ before))
+    MatchOption (pool_refusal limits size) ((n ≡ 0) × (after ≡ size))
+    (λ error. (n ≡ create_code error) × (after ≡ before))
 
 module _ {S : Type 0} (Creates : S → ℕ → Id → Id → Type 0) where
-  -- a port is created, unless a strategy is none, and then nothing changes
+  -- a port is created, unless a number is not that of a strategy; then nothing changes
   abbrev pub CreatesPort : Option S → Hub → ℕ → Id → Id → Hub → Type 0
   CreatesPort (Some settings) old n before after new = Creates settings n before after
   CreatesPort None old n before after new = (n ≡ 7) × (after ≡ before) × (new ≡ old)
@@ -128,13 +134,13 @@ abbrev pub IsStrategyWritten : ℕ → Result BackpressureStrategy Refusal → �
 IsStrategyWritten old (Ok strategy) new = backpressure_in new ≡ Some strategy
 IsStrategyWritten old (Err refusal) new = new ≡ old
 
--- how many queues took what was sent
+-- the number of queues that took the sent message
 abbrev pub taken : ℕ → Result Sent Refusal → ℕ
 taken old (Ok (sent_as.Request servers)) = servers
 taken old (Ok sent_as.Response) = 0
 taken old (Err refusal) = old
 
--- the code of why a send would be refused, or 0
+-- the code of the refusal of a send, or 0
 abbrev pub why_written : ℕ → Result (Option Refusal) Refusal → ℕ
 why_written old (Ok why) = option_map_or code why 0
 why_written old (Err refusal) = old
@@ -143,7 +149,7 @@ why_written old (Err refusal) = old
 abbrev pub HubSendsCopy : Hub → ℕ → List ℕ → Result SentCopy Refusal → Hub → Type 0
 HubSendsCopy old n payload answer new = SendsCopyOf follows_strategy IsZeroHeader old.bytes n payload answer new.bytes
 
--- the id of what was sent
+-- the id of the sent message
 abbrev pub copy_named : Id → Result SentCopy Refusal → Id
 copy_named old (Ok (copy.Request id servers)) = id
 copy_named old (Ok (copy.Response id)) = id

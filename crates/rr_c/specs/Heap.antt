@@ -9,6 +9,6 @@ use Rattle.std.specs.contracts.impls.GlobalAllocator.TheImpl.{ghosts}
 abbrev pub heap : Global
 heap = record { memory = record { seal = tt } }
 
--- whoever has it may free the block of that type at an address
+-- its owner may free the block of that type at an address
 abbrev pub frees : Ty → Ptr → Fml
 frees = ghosts.dealloc_token heap

@@ -1,4 +1,4 @@
--- What a C program asks of a hub and its ports.
+-- The settings of a hub and its ports, as a C program passes them.
 use Rattle.std.specs.Prelude.{ℕ, ◌==◌, if◌then◌else◌, Option, Some, None, option_and_then, option_map}
 use Rattle.rr_protocol.specs.declared.limits.Limits.{Limits}
 use Rattle.rr_protocol.specs.declared.settings.AllocationStrategy.{AllocationStrategy}
@@ -26,21 +26,23 @@ limits_in asked = record {
   server_expired_connection_buffer = asked.server_expired_connection_buffer;
 }
 
--- so many slots at most; 0 reduces no pool
+-- at most this many slots; 0 reduces no pool
 abbrev pub pool_in : ℕ → Option ℕ
 pool_in slots = if slots == 0 then None else Some slots
 
 -- the strategies by their numbers
 abbrev pub backpressure_in : ℕ → Option BackpressureStrategy
 backpressure_in n =
-    if n == 0 then Some BackpressureStrategy.RetryUntilDelivered else (if n == 1 then Some BackpressureStrategy.DiscardData else None)
+    if n == 0 then Some BackpressureStrategy.RetryUntilDelivered else
+    (if n == 1 then Some BackpressureStrategy.DiscardData else None)
 
 abbrev pub allocation_in : ℕ → Option AllocationStrategy
 allocation_in n =
     if n == 0 then Some AllocationStrategy.Static
-    else (if n == 1 then Some AllocationStrategy.BestFit else (if n == 2 then Some AllocationStrategy.PowerOfTwo else None))
+    else (if n == 1 then Some AllocationStrategy.BestFit else
+    (if n == 2 then Some AllocationStrategy.PowerOfTwo else None))
 
--- the settings of a client, if its strategies are some
+-- the settings of a client, if both numbers are those of strategies
 abbrev pub client_settings_in : ClientOptions → Option (ClientSettings NoHandler)
 client_settings_in asked =
     option_and_then (λ backpressure.
@@ -52,7 +54,7 @@ client_settings_in asked =
       handler = None;
     }) (allocation_in asked.allocation_strategy)) (backpressure_in asked.backpressure_strategy)
 
--- the settings of a server, if its strategies are some
+-- the settings of a server, if both numbers are those of strategies
 abbrev pub server_settings_in : ServerOptions → Option (ServerSettings NoHandler)
 server_settings_in asked =
     option_and_then (λ backpressure.

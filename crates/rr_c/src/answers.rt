@@ -1,4 +1,4 @@
-//! What an export returns: 0, or the code of a refusal.
+//! The return values of exports: 0, or the code of a refusal.
 ghost use Rattle.std.specs.Prelude.{◌≡◌};
 ghost use Rattle.rr_checked.specs.Codes.{code};
 ghost use Rattle.rr_bytes.specs.Writes.{write_code};
@@ -6,16 +6,16 @@ ghost use Rattle.rr_c.specs.Answers.{answer_code, create_code, written};
 
 use rr_bytes::{HubCreateError, Refusal, WriteRefusal};
 
-/// The call has done what it says.
+/// The call was carried out.
 pub(crate) const OK: u32 = 0;
 
-/// What a number names isn't there.
+/// The id names no live port or handle.
 pub(crate) const UNKNOWN: u32 = 1;
 
 /// Nothing is queued.
 pub(crate) const NOTHING: u32 = 6;
 
-/// A strategy is none.
+/// A number is not that of a strategy.
 pub(crate) const INVALID_SETTING: u32 = 7;
 
 /// Returns the code of a call's result, and writes its value.
@@ -33,7 +33,7 @@ pub(crate) fn write<V: Copy>(answer: Result<V, Refusal>, value: &mut V) -> u32
     }
 }
 
-/// Returns the code of a call's result, which has no value.
+/// Returns the code of the result of a call without a value.
 #[inline(always)]
 pub(crate) fn done(answer: Result<(), Refusal>) -> u32
     ensures { result ≡ answer_code code answer }
@@ -55,7 +55,7 @@ pub(crate) fn wrote(answer: Result<(), WriteRefusal>) -> u32
     }
 }
 
-/// Returns the code of why no hub is made.
+/// Returns the code of a refusal to make a hub.
 pub(crate) fn code_of_create(error: HubCreateError) -> u32
     ensures { result ≡ create_code error }
 {

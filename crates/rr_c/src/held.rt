@@ -1,4 +1,4 @@
-//! What a C program holds of a hub.
+//! The handle of a hub that a C program holds.
 use rr_bytes::Bytes;
 use std::marker::Model;
 
@@ -26,5 +26,5 @@ impl Model for Held {
     ghost also_owns = { λ held. box_owns frees hub_row held.at held.hub };
 }
 
-// What it owns may be used by another thread.
+// Another thread may use the hub that it owns.
 unsafe impl Send for Held {}

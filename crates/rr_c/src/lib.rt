@@ -1,6 +1,8 @@
-//! The hub of bytes for C. `bindings/c/include/rr.h` declares what stands in `exports`, and says what a caller owes.
+//! The hub of bytes for C. `bindings/c/include/rr.h` declares the functions of `exports`, and states the obligations
+//! of a caller.
 //!
-//! Each export's clause is that of the call of `rr_bytes` beside the code that is returned, and what is written through pointers.
+//! Each export's clause is that of the call of `rr_bytes`, plus the returned code and the values written through
+//! pointers.
 #![tactic(auto)]
 
 mod answers;

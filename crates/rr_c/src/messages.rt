@@ -1,4 +1,4 @@
-//! What a C program is told of a message.
+//! Headers and results, as a C program receives them.
 ghost use Rattle.std.specs.Prelude.{◌≡◌};
 ghost use Rattle.rr_c.specs.Answers.{header_of};
 
@@ -22,7 +22,7 @@ pub struct UserHeader {
     pub bytes: [u8; 16],
 }
 
-/// Returns what a C program is told of a message's header.
+/// Returns a message's header as a C program receives it.
 pub(crate) fn header_of(header: MessageHeader) -> Header
     ensures { result ≡ header_of header }
 {

@@ -1,4 +1,5 @@
-//! From what a C program holds to the hub and back, and where a slice begins. The proofs of these functions are by hand.
+//! Conversions between the pointer that a C program holds and the hub, and the address of a slice. The proofs of
+//! these functions are by hand.
 ghost use Rattle.std.specs.Prelude.{◌≡◌};
 ghost use Rattle.std.specs.Borrow.{sem};
 ghost use Rattle.std.specs.Ptr.{as_ptr};
@@ -17,7 +18,7 @@ pub(crate) fn hub_in(held: &mut Held) -> &mut Hub
     unsafe { &mut *(held.at as *mut Hub) }
 }
 
-/// Hands a hub to a C program, which owns it from now on.
+/// Hands a hub over to a C program, which owns it afterwards.
 pub(crate) fn address_of(hub: Box<Hub, Global>) -> *mut u8 {
     let (at, _alloc) = Box::into_raw_with_allocator(hub);
     at as *mut u8
@@ -41,7 +42,7 @@ fn loose_of(held: Held, alloc: Global) -> Loose<Hub, Global>
     }
 }
 
-/// Where bytes begin.
+/// Returns the address of bytes.
 #[inline(always)]
 pub(crate) fn start_of(bytes: &[u8]) -> *const u8
     ensures { result ≡ as_ptr bytes.entry }

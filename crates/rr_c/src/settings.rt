@@ -1,4 +1,4 @@
-//! What a C program asks of a hub and its ports.
+//! The settings of a hub and its ports, as a C program passes them.
 ghost use Rattle.std.specs.Prelude.{◌≡◌, Some};
 ghost use Rattle.rr_c.specs.Settings.{backpressure_in, allocation_in, client_settings_in, limits_in, pool_in, server_settings_in};
 
@@ -62,7 +62,7 @@ pub(crate) fn limits(asked: &HubLimits) -> Limits
     }
 }
 
-/// Returns the settings of a client. Returns `None` if a strategy is none.
+/// Returns the settings of a client, or `None` if a number is not that of a strategy.
 pub(crate) fn client(asked: &ClientOptions) -> Option<ClientSettings<NoHandler>>
     ensures { result ≡ client_settings_in asked.now }
 {
@@ -77,7 +77,7 @@ pub(crate) fn client(asked: &ClientOptions) -> Option<ClientSettings<NoHandler>>
     })
 }
 
-/// Returns the settings of a server. Returns `None` if a strategy is none.
+/// Returns the settings of a server, or `None` if a number is not that of a strategy.
 pub(crate) fn server(asked: &ServerOptions) -> Option<ServerSettings<NoHandler>>
     ensures { result ≡ server_settings_in asked.now }
 {
@@ -93,14 +93,14 @@ pub(crate) fn server(asked: &ServerOptions) -> Option<ServerSettings<NoHandler>>
     })
 }
 
-/// Returns the slots of a reduced pool. 0 reduces none.
+/// Returns the slots of a reduced pool, or `None` for 0, which reduces no pool.
 fn pool(slots: usize) -> Option<usize>
     ensures { result ≡ pool_in slots }
 {
     if slots == 0 { None } else { Some(slots) }
 }
 
-/// Returns the strategy that a number stands for, if it stands for one.
+/// Returns the strategy with this number, if there is one.
 fn backpressure(number: u32) -> Option<BackpressureStrategy>
     ensures { result ≡ backpressure_in number }
 {
@@ -111,7 +111,7 @@ fn backpressure(number: u32) -> Option<BackpressureStrategy>
     }
 }
 
-/// Returns the strategy that a number stands for, if it stands for one.
+/// Returns the strategy with this number, if there is one.
 fn allocation(number: u32) -> Option<AllocationStrategy>
     ensures { result ≡ allocation_in number }
 {

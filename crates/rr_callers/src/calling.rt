@@ -1,4 +1,4 @@
-//! A remote procedure call: what a server answers to a question is what the client receives.
+//! A remote procedure call: the client receives what the server answers to its question.
 #![tactic(auto, using(rr_ports::proofs::Frames::callers), unfolding(rr_ports::specs::Facts::Keeps, rr_ports::specs::Facts::IsFree, rr_ports::specs::Queues::KeepsHeard))]
 
 ghost use Rattle.std.specs.Prelude.{◌+◌, ◌≤◌, ◌<◌, ◌≡◌, ◌≢◌, ◌∷◌, [], IfOk};
@@ -10,10 +10,11 @@ use rr_ports::typed::{Client, Hub, PendingResponse, Server};
 use rr_ports::{ReceiveError, RequestSendError, SendError};
 use thiserror::Error;
 
-/// A service that answers questions of one type with answers of another. A crate that names it need not know its user headers.
+/// A service that answers questions of one type with answers of another. A crate that names it need not know its user
+/// headers.
 pub type Service<Q, P> = Hub<Q, u64, P, u64>;
 
-/// Why no answer came.
+/// Why no answer was received.
 #[derive(Clone, Copy, Debug, PartialEq, Eq, Error)]
 pub enum CallError {
     /// The question was not sent.
@@ -28,12 +29,12 @@ pub enum CallError {
     /// The client didn't receive the answer.
     #[error("not received: {0}")]
     NotReceived(ReceiveError),
-    /// The answers found no memory.
+    /// There was no memory for the answers.
     #[error("no memory")]
     OutOfMemory,
 }
 
-/// Answers the one question that is queued for a server, as `answer_by` says. Returns the answer.
+/// Answers the only question in a server's queue, as `answer_by` does. Returns the answer.
 ///
 /// # Errors
 ///
@@ -78,7 +79,7 @@ pub fn answer<Q: Copy, P: Copy, F: FnOnce(Q) -> P>(
     }
 }
 
-/// Receives the one answer that is queued for a question. No answer is queued then.
+/// Receives the only answer that is queued for a question. No answer is queued afterwards.
 ///
 /// # Errors
 ///
@@ -107,7 +108,7 @@ pub fn received<Q: Copy, P: Copy>(
     }
 }
 
-/// Lets a server answer a question that was sent, and returns what the client receives.
+/// Makes a server answer a question that was sent, and returns the client's received value.
 ///
 /// # Errors
 ///
@@ -142,12 +143,12 @@ pub fn exchange<Q: Copy, P: Copy, F: FnOnce(Q) -> P>(
     }
 }
 
-/// Sends a question, lets the server answer it as `answer_by` says, and returns what the client receives: the answer to this
-/// question.
+/// Sends a question, makes the server answer it as `answer_by` does, and returns the client's received value: the
+/// answer to this question.
 ///
 /// # Errors
 ///
-/// Each variant of `CallError` says when it comes.
+/// Each variant of `CallError` says which call failed.
 pub fn call<Q: Copy, P: Copy, F: FnOnce(Q) -> P>(
     hub: &mut Service<Q, P>,
     client: &Client<Q>,
@@ -173,12 +174,12 @@ pub fn call<Q: Copy, P: Copy, F: FnOnce(Q) -> P>(
     result
 }
 
-/// Sends a question to two servers, lets each answer it, and returns what the client receives: the first server's answer to this
-/// question, and the second one's.
+/// Sends a question to two servers, makes each answer it, and returns the client's received values: the first
+/// server's answer to this question, and the second one's.
 ///
 /// # Errors
 ///
-/// Each variant of `CallError` says when it comes.
+/// Each variant of `CallError` says which call failed.
 pub fn call_both<Q: Copy, P: Copy, F: FnOnce(Q) -> P, G: FnOnce(Q) -> P>(
     hub: &mut Service<Q, P>,
     client: &Client<Q>,

@@ -1,4 +1,4 @@
-//! A hub with one client and one server: what most programs begin with.
+//! A hub with one client and one server, with which most programs begin.
 #![tactic(auto, using(rr_ports::proofs::Frames::callers), unfolding(rr_ports::specs::Facts::Keeps, rr_ports::specs::Facts::IsFree))]
 
 ghost use Rattle.std.specs.Prelude.{◌+◌, ◌<◌, ◌≡◌, ◌≤◌, IfOk, None, ℕ};
@@ -66,19 +66,23 @@ impl<
     ///
     /// # Errors
     ///
-    /// `ClientCreate` or `ServerCreate`, as `create` of the factories. The hub is gone then.
+    /// `ClientCreate` or `ServerCreate`, as `create` of the factories. The hub is dropped then.
     pub fn by(
         mut hub: Hub<QB, QH, PB, PH, K>,
         clients: PortFactoryClient<QB, K>,
         servers: PortFactoryServer<PB, K>,
     ) -> Result<Self, Error>
         ensures client { IfOk result (λ c. Names c.hub c.client kind.Client) }
-        ensures client_pool { IfOk result (λ c. Has c.hub c.client (WholePool (room_of QB.family clients.settings.initial_max_slice_len))) }
+        ensures client_pool { IfOk result (λ c. Has c.hub c.client
+            (WholePool (room_of QB.family clients.settings.initial_max_slice_len))) }
         ensures client_owns { IfOk result (λ c. Owns c.hub c.client 0) }
-        ensures discards { clients.settings.strategy ≡ strategy.DiscardData → clients.settings.handler ≡ None → IfOk result (λ c. Has c.hub c.client Discards) }
-        ensures room { (room : ℕ) → room ≤ hub.limits.max_response_buffer_size → IfOk result (λ c. Has c.hub c.client (Buffers room)) }
+        ensures discards { clients.settings.strategy ≡ strategy.DiscardData → clients.settings.handler ≡ None
+            → IfOk result (λ c. Has c.hub c.client Discards) }
+        ensures room { (room : ℕ) → room ≤ hub.limits.max_response_buffer_size
+            → IfOk result (λ c. Has c.hub c.client (Buffers room)) }
         ensures server { IfOk result (λ c. Names c.hub c.server kind.Server) }
-        ensures server_pool { IfOk result (λ c. Has c.hub c.server (WholePool (room_of PB.family servers.settings.initial_max_slice_len))) }
+        ensures server_pool { IfOk result (λ c. Has c.hub c.server
+            (WholePool (room_of PB.family servers.settings.initial_max_slice_len))) }
         ensures server_owns { IfOk result (λ c. Owns c.hub c.server 0) }
         ensures quiet { IfOk result (λ c. HearsNothing c.hub c.server) }
         ensures numbers { IfOk result (λ c. numbers_left hub ≤ numbers_left c.hub + 2) }

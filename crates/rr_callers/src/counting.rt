@@ -14,7 +14,7 @@ use rr_ports::SendError;
 use rr_ports::typed::{ActiveRequest, Client, PendingResponse, Server};
 use std::alloc::Global;
 
-/// Sends the numbers from 0 on as responses, `count` of them, all of which the client's queue has room for.
+/// Sends `count` numbers from 0 on as responses, for all of which the client's queue has room.
 ///
 /// # Errors
 ///
@@ -42,11 +42,11 @@ pub fn count(
     Ok(())
 }
 
-/// Receives as many responses of a stream that counts from 0 on, and returns their numbers: 0, 1, 2 and so on.
+/// Receives `count` responses of a stream that counts from 0 on, and returns their numbers: 0, 1, 2 and so on.
 ///
 /// # Errors
 ///
-/// `NotReceived` as `PendingResponse::receive`, `OutOfMemory` if the numbers found no memory.
+/// `NotReceived` as `PendingResponse::receive`, `OutOfMemory` if there was no memory for the numbers.
 pub fn received(
     alloc: Global,
     hub: &mut Service,

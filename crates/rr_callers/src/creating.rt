@@ -1,4 +1,4 @@
-//! Hubs that are made, and ports that are created with settings.
+//! Making hubs, and creating ports with settings.
 #![tactic(auto, using(rr_ports::proofs::Frames::callers), unfolding(rr_ports::specs::Facts::Keeps, rr_ports::specs::Facts::IsFree))]
 
 ghost use Rattle.std.specs.Prelude.{◌≡◌, ◌↔◌, [], IfOk, IsTrue};
@@ -21,13 +21,13 @@ pub type Service = Hub<u64, (), u64, ()>;
 ///
 /// # Errors
 ///
-/// As `Hub::new`; none comes of these limits.
+/// As `Hub::new`; these limits are never refused.
 pub fn small_service(alloc: Global) -> Result<Service, HubCreateError> {
     Hub::new(alloc, Limits::default().max_clients(3), UniqueNodeId(0))
 }
 
-/// Creates a client whose slots have room for 16 elements and grow for more, and whose sends are refused at a full queue that may not
-/// overflow.
+/// Creates a client whose slots have room for 16 elements and grow for more, and whose sends are refused at a full
+/// queue that may not overflow.
 ///
 /// # Errors
 ///
@@ -89,7 +89,7 @@ pub fn is_known<H: Handle>(hub: &Service, handle: &H) -> bool
 ///
 /// # Errors
 ///
-/// As `UpdateConnections::update_connections`: none comes.
+/// As `UpdateConnections::update_connections`: never returns an error.
 pub fn connect<P: UpdateConnections>(hub: &Service, port: &P) -> Result<(), ConnectionFailure> {
     port.update_connections(hub)
 }

@@ -1,4 +1,4 @@
-//! Sums of all that is queued.
+//! Sums of all queued messages.
 #![tactic(auto, using(rr_ports::proofs::Frames::callers), unfolding(rr_ports::specs::Facts::Keeps, rr_ports::specs::Facts::IsFree))]
 
 ghost use Rattle.std.specs.Prelude.{◌≡◌, ◌+◌, ◌-◌, ◌%◌, ◌^◌, ◌<◌, [], ◌∷◌, ℕ, List, IfOk, fold, length, map};
@@ -24,7 +24,8 @@ pub fn sum_of_answers(
     requires client { Names hub.old client.now kind.Client }
     requires pending { Names hub.old pending.now kind.PendingResponse }
     requires of { Has hub.old pending.now (Of client.now pending.now) }
-    ensures sum { (answers : List ℕ) → Awaits hub.old pending.now server.now (map (λ x. x ∷ []) answers) → length answers < 2 ^ 64 - 1 → IfOk result (λ total. total ≡ fold (λ sum x. (sum + x) % 2 ^ 64) 0 answers) }
+    ensures sum { (answers : List ℕ) → Awaits hub.old pending.now server.now (map (λ x. x ∷ []) answers)
+        → length answers < 2 ^ 64 - 1 → IfOk result (λ total. total ≡ fold (λ sum x. (sum + x) % 2 ^ 64) 0 answers) }
     ensures keeps { Keeps [] hub.old hub.new }
     ensures numbers { numbers_left hub.new ≡ numbers_left hub.old }
 {
@@ -35,7 +36,7 @@ pub fn sum_of_answers(
     )
 }
 
-/// Tells a server two numbers. Returns the wrapped sum of all that is queued for it.
+/// Tells a server two numbers. Returns the wrapped sum of all numbers in its queue.
 ///
 /// # Errors
 ///

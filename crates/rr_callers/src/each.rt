@@ -11,11 +11,12 @@ use crate::calling::{CallError, Service, call};
 use rr_ports::typed::{Client, Server};
 use std::alloc::Global;
 
-/// Asks one question after another, lets the server answer each as `answer_by` says, and returns the answers in the same order.
+/// Asks one question after another, makes the server answer each as `answer_by` does, and returns the answers in the
+/// same order.
 ///
 /// # Errors
 ///
-/// Each variant of `CallError` says when it comes.
+/// Each variant of `CallError` says which call failed.
 pub fn call_each<Q: Copy, P: Copy, F: Fn(Q) -> P>(
     alloc: Global,
     hub: &mut Service<Q, P>,

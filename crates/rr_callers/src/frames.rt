@@ -1,4 +1,4 @@
-//! What a function keeps: handles that come by value, that are returned, and that are made and released inside.
+//! The frame of a function: handles that are passed by value, returned, or made and released inside.
 #![tactic(auto, using(rr_ports::proofs::Frames::callers), unfolding(rr_ports::specs::Facts::Keeps, rr_ports::specs::Facts::IsFree))]
 
 ghost use Rattle.std.specs.Prelude.{◌≡◌, ◌<◌, ◌≤◌, ◌+◌, ◌∷◌, [], IfOk, IfSome};
@@ -11,7 +11,7 @@ use rr_ports::{ReceiveError, RequestSendError, SendError};
 /// A service that answers numbers with numbers.
 pub type Service = Hub<u64, u64, u64, u64>;
 
-/// Takes a pending response, and returns the response that came, if one did.
+/// Takes a pending response, and returns a response to it, if one is queued.
 pub fn take(hub: &mut Service, pending: PendingResponse<u64>) -> Option<u64>
     requires { Names hub.old pending kind.PendingResponse }
     ensures keeps { Keeps (pending ∷ []) hub.old hub.new }
@@ -29,7 +29,7 @@ pub fn take(hub: &mut Service, pending: PendingResponse<u64>) -> Option<u64>
     came
 }
 
-/// Returns the number that came as a response, if one did, and releases it.
+/// Returns the number in a response, if one is queued, and releases the response.
 pub fn received(hub: &mut Service, pending: &PendingResponse<u64>) -> Option<u64>
     requires { Names hub.old pending.now kind.PendingResponse }
     ensures keeps { Keeps [] hub.old hub.new }

@@ -1,4 +1,4 @@
-//! Sends that give the message back where they are refused.
+//! Sends that return the message on a refusal.
 #![tactic(auto, using(rr_ports::proofs::Frames::callers), unfolding(rr_ports::specs::Facts::Keeps, rr_ports::specs::Facts::IsFree))]
 
 ghost use Rattle.std.specs.Prelude.{◌<◌, ◌≤◌, ◌+◌, ◌≡◌, ◌∷◌, [], IfErr, IfOk, IfSome, List, ℕ};
@@ -9,7 +9,8 @@ use crate::frames::Service;
 use rr_ports::Refused;
 use rr_ports::typed::{ActiveRequest, PendingResponse, RequestMut, ResponseMut};
 
-/// Sends an answer. Returns the response if it could not be sent yet, or `None` if it was sent, or could not be loaned.
+/// Sends an answer. Returns the response if it could not be sent yet, or `None` if it was sent, or could not be
+/// loaned.
 pub fn offered(
     hub: &mut Service,
     active: &ActiveRequest<u64>,
@@ -29,7 +30,7 @@ pub fn offered(
     offered_again(hub, response)
 }
 
-/// Sends a response that was given back. Returns it if it could not be sent yet.
+/// Sends a response that a refused send returned. Returns it if it could not be sent yet.
 pub fn offered_again(hub: &mut Service, response: ResponseMut<u64>) -> Option<ResponseMut<u64>>
     requires { Names hub.old response kind.ResponseMut }
     ensures same { IfSome result (λ kept. kept ≡ response) }
@@ -46,7 +47,7 @@ pub fn offered_again(hub: &mut Service, response: ResponseMut<u64>) -> Option<Re
     }
 }
 
-/// Sends a request. Returns it with what it says if it could not be sent yet.
+/// Sends a request. Returns it with its content if it could not be sent yet.
 pub fn posed(
     hub: &mut Service,
     request: RequestMut<u64>,

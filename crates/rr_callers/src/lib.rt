@@ -1,4 +1,5 @@
-//! What callers of `rr_ports` write, promise and prove: a function for each form, of which most need no file of proofs.
+//! Callers of `rr_ports` with their contracts and proofs: a function for each form of promise, most of which need no
+//! file of proofs.
 #![tactic(auto)]
 
 pub mod calling;

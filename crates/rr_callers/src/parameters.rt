@@ -1,5 +1,5 @@
-//! A parameter service: a server keeps values under keys, which clients get, set and list. A question is one value, and its answer a
-//! slice.
+//! A parameter service: a server keeps values under keys, which clients get, set and list. A question is one value,
+//! and its answer a slice.
 #![tactic(auto, using(rr_ports::proofs::Frames::callers), unfolding(rr_ports::specs::Facts::Keeps, rr_ports::specs::Facts::IsFree, rr_ports::specs::Queues::KeepsHeard))]
 
 ghost use Rattle.std.specs.Prelude.{◌+◌, ◌*◌, ◌<◌, ◌≤◌, ◌≡◌, ◌∷◌, [], IfOk, length, map};
@@ -15,7 +15,7 @@ use rr_ports::{Hub, NoHandler, SliceBody};
 use std::alloc::Global;
 use std::slice;
 
-/// What a client asks.
+/// A client's question.
 #[derive(Clone, Copy, Debug, PartialEq, Eq)]
 pub enum Asked {
     /// The value under a key.
@@ -29,7 +29,7 @@ pub enum Asked {
 /// A parameter service: questions are single values, and answers slices.
 pub type Service = Hub<Option<Asked>, (), SliceBody<u64>, (), NoHandler>;
 
-/// Sets what a question sets. A key without a value sets nothing.
+/// Carries out the write of a question. A key without a value writes nothing.
 fn store(values: &mut [u64], asked: Asked)
     ensures { values.new ≡ values_after asked values.old }
 {
@@ -40,7 +40,7 @@ fn store(values: &mut [u64], asked: Asked)
     }
 }
 
-/// Returns what is answered to a question: the value under its key, or nothing if there is none, or all values.
+/// Returns the answer to a question: the value under its key, or nothing if there is none, or all values.
 fn told(values: &[u64], asked: Asked) -> &[u64]
     ensures { result.now ≡ answer_of asked values.now }
 {
@@ -53,11 +53,12 @@ fn told(values: &[u64], asked: Asked) -> &[u64]
     }
 }
 
-/// Receives the one question that is queued for a server, sets what it sets, and answers it.
+/// Receives the only question in a server's queue, carries out its write, and answers it.
 ///
 /// # Errors
 ///
-/// `NotHeard` as `Server::receive`; `NotAnswered` as `ActiveRequest::send_slice`. No clause tells of the values then.
+/// `NotHeard` as `Server::receive`; `NotAnswered` as `ActiveRequest::send_slice`. No clause speaks of the values
+/// then.
 pub fn serve(
     hub: &mut Service,
     server: &Server<u64>,
@@ -96,11 +97,11 @@ pub fn serve(
     }
 }
 
-/// Receives the one answer that is queued for a question, and copies it.
+/// Receives the only answer that is queued for a question, and copies it.
 ///
 /// # Errors
 ///
-/// `NotReceived` as `PendingResponse::receive`, `OutOfMemory` if the copy found no memory.
+/// `NotReceived` as `PendingResponse::receive`, `OutOfMemory` if there was no memory for the copy.
 fn received(
     alloc: Global,
     hub: &mut Service,
@@ -111,7 +112,8 @@ fn received(
     requires client { Names hub.old client.now kind.Client }
     requires pending { Names hub.old pending.now kind.PendingResponse }
     requires of { Has hub.old pending.now (Of client.now pending.now) }
-    ensures answer { (values : _) → Awaits hub.old pending.now server.now (values ∷ []) → IfOk result (λ came. came.items ≡ values) }
+    ensures answer { (values : _) → Awaits hub.old pending.now server.now (values ∷ [])
+        → IfOk result (λ came. came.items ≡ values) }
     ensures keeps { Keeps [] hub.old hub.new }
     ensures heard { KeepsHeard [] hub.old hub.new }
     ensures numbers { numbers_left hub.new ≡ numbers_left hub.old }
@@ -127,11 +129,11 @@ fn received(
     }
 }
 
-/// Asks, lets the server answer, and returns the answer.
+/// Asks, makes the server answer, and returns the answer.
 ///
 /// # Errors
 ///
-/// Each variant of `CallError` says when it comes.
+/// Each variant of `CallError` says which call failed.
 pub fn ask(
     alloc: Global,
     hub: &mut Service,
@@ -159,11 +161,12 @@ pub fn ask(
     told
 }
 
-/// Asks the questions one after another, the two clients in turn. Returns the answers in the order of the questions.
+/// Asks the questions one after another, alternating between the two clients. Returns the answers in the order of the
+/// questions.
 ///
 /// # Errors
 ///
-/// As `ask`. No clause tells of the values then.
+/// As `ask`. No clause speaks of the values then.
 pub fn ask_in_turn(
     alloc: Global,
     hub: &mut Service,
@@ -178,7 +181,8 @@ pub fn ask_in_turn(
     requires server { Names hub.old server.now kind.Server }
     requires quiet { HearsNothing hub.old server.now }
     requires numbers { length questions.now * 3 ≤ numbers_left hub.old }
-    ensures answers { IfOk result (λ told. map (λ answer. answer.items) told.items ≡ answers_of questions.now values.old) }
+    ensures answers { IfOk result (λ told. map (λ answer. answer.items) told.items
+        ≡ answers_of questions.now values.old) }
     ensures keeps { Keeps [] hub.old hub.new }
 {
     let mut answers = Vec::new(alloc);

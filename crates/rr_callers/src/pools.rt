@@ -10,7 +10,7 @@ use crate::frames::{Service, serve};
 use rr_ports::typed::{Client, PortFactoryClient, RequestMut, Server};
 use rr_ports::{BackpressureStrategy, ClientCreateError, LoanError};
 
-/// Loans and writes a request. It never returns `OutOfMemory`.
+/// Loans and writes a request. Never returns `OutOfMemory`.
 pub fn loan(
     hub: &mut Service,
     client: &Client<u64>,
@@ -45,7 +45,7 @@ fn patient(hub: &Service) -> PortFactoryClient<u64> {
         .backpressure_strategy(BackpressureStrategy::RetryUntilDelivered)
 }
 
-/// Creates a client with a whole pool by a factory of which no clause tells anything.
+/// Creates a client with a whole pool by a factory of which no clause says anything.
 pub fn create_patient(hub: &mut Service) -> Result<Client<u64>, ClientCreateError>
     ensures kind { IfOk result (λ client. Names hub.new client kind.Client) }
     ensures pool { IfOk result (λ client. Has hub.new client (WholePool 1)) }
@@ -54,7 +54,7 @@ pub fn create_patient(hub: &mut Service) -> Result<Client<u64>, ClientCreateErro
     patient(hub).create(hub)
 }
 
-/// Returns whether a loan is granted, and releases it. Another reason than want of a slot is the only one against it.
+/// Returns whether a loan is granted, and releases it. It can't be refused for want of a slot.
 fn is_granted(hub: &mut Service, client: &Client<u64>) -> bool
     requires client { Names hub.old client.now kind.Client }
     requires pool { Has hub.old client.now (WholePool 1) }
@@ -71,7 +71,7 @@ fn is_granted(hub: &mut Service, client: &Client<u64>) -> bool
     }
 }
 
-/// Creates a client, lets a server answer others, and loans with the client, whose pool is whole still.
+/// Creates a client, makes a server answer others, and loans from the client, whose pool is still whole.
 pub fn loan_later(hub: &mut Service, server: &Server<u64>) -> Result<bool, ClientCreateError>
     requires server { Names hub.old server.now kind.Server }
     requires numbers { 3 < numbers_left hub.old }

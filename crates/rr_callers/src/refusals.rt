@@ -1,4 +1,4 @@
-//! Which refusals callers exclude: of a port that has few handles and a whole pool, and whose sends pass full queues over.
+//! Refusals that callers exclude: of a port that has few handles and a whole pool, and whose sends skip full queues.
 #![tactic(auto, using(rr_ports::proofs::Frames::callers), unfolding(rr_ports::specs::Facts::Keeps, rr_ports::specs::Facts::IsFree, rr_ports::specs::Owning::KeepsOwned))]
 
 ghost use Rattle.std.specs.Prelude.{◌+◌, ◌≤◌, ◌<◌, ◌≢◌, ◌∷◌, [], IfErr, IfOk};
@@ -10,7 +10,7 @@ use crate::frames::Service;
 use rr_ports::typed::{Client, PendingResponse};
 use rr_ports::{LoanError, RequestSendError, SendError};
 
-/// Sends a number by a client that passes full queues over. It is never refused with `UnableToDeliver`.
+/// Sends a number by a client that skips full queues. It is never refused with `UnableToDeliver`.
 pub fn passed_over(
     hub: &mut Service,
     client: &Client<u64>,
@@ -68,7 +68,7 @@ pub fn loaned(hub: &mut Service, client: &Client<u64>)
     }
 }
 
-/// Sends a number by a client that has no handle and a whole pool, and passes full queues over. It is never refused.
+/// Sends a number by a client that has no handle and a whole pool, and skips full queues. It is never refused.
 pub fn sent(hub: &mut Service, client: &Client<u64>, value: u64) -> PendingResponse<u64>
     requires client { Names hub.old client.now kind.Client }
     requires pool { Has hub.old client.now (WholePool 1) }
@@ -88,7 +88,7 @@ pub fn sent(hub: &mut Service, client: &Client<u64>, value: u64) -> PendingRespo
     }
 }
 
-/// Sends a number and waits for nothing, by a client that has no handle and a whole pool, and passes full queues over.
+/// Sends a number and waits for nothing, by a client that has no handle and a whole pool, and skips full queues.
 pub fn told(hub: &mut Service, client: &Client<u64>, value: u64)
     requires client { Names hub.old client.now kind.Client }
     requires pool { Has hub.old client.now (WholePool 1) }
@@ -105,7 +105,8 @@ pub fn told(hub: &mut Service, client: &Client<u64>, value: u64)
     }
 }
 
-/// Sends a number by each of two clients that have no handles, and holds both pending responses at one time. Neither is refused.
+/// Sends a number by each of two clients that have no handles, and holds both pending responses at one time. Neither
+/// is refused.
 pub fn asked_by_both(hub: &mut Service, one: &Client<u64>, two: &Client<u64>)
     requires one { Names hub.old one.now kind.Client }
     requires two { Names hub.old two.now kind.Client }

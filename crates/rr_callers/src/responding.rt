@@ -1,4 +1,4 @@
-//! Answers that are made of the request in place.
+//! Answers that are computed from the request in place.
 #![tactic(auto, using(rr_ports::proofs::Frames::callers), unfolding(rr_ports::specs::Facts::Keeps, rr_ports::specs::Facts::IsFree))]
 
 ghost use Rattle.std.specs.Prelude.{◌*◌, ◌%◌, ◌^◌, ◌<◌, [], ◌∷◌, ℕ, List, OnOk, map};
@@ -29,7 +29,8 @@ pub fn double(
     requires of { Has hub.old active.now (Of server.now pending.now) }
     requires awaits { AwaitsNothing hub.old pending.now }
     requires number { 0 < numbers_left hub.old }
-    ensures answers { (asked : ℕ) → Has hub.old active.now (Asks (asked ∷ [])) → OnOk result (Awaits hub.new pending.now server.now ((asked * 2 % 2 ^ 64 ∷ []) ∷ [])) }
+    ensures answers { (asked : ℕ) → Has hub.old active.now (Asks (asked ∷ []))
+        → OnOk result (Awaits hub.new pending.now server.now ((asked * 2 % 2 ^ 64 ∷ []) ∷ [])) }
     ensures keeps { Keeps [] hub.old hub.new }
 {
     active.respond_with(hub, |asked: &u64| asked.wrapping_mul(2))
@@ -52,7 +53,8 @@ pub fn scale(
     requires of { Has hub.old active.now (Of server.now pending.now) }
     requires awaits { AwaitsNothing hub.old pending.now }
     requires number { 0 < numbers_left hub.old }
-    ensures answers { (asked : List ℕ) → Has hub.old active.now (Asks asked) → OnOk result (Awaits hub.new pending.now server.now (map (λ x. x * by % 2 ^ 64) asked ∷ [])) }
+    ensures answers { (asked : List ℕ) → Has hub.old active.now (Asks asked)
+        → OnOk result (Awaits hub.new pending.now server.now (map (λ x. x * by % 2 ^ 64) asked ∷ [])) }
     ensures keeps { Keeps [] hub.old hub.new }
 {
     let len = active.payload(hub).len();

@@ -38,7 +38,8 @@ fn range_of(samples: &[u64]) -> Extremes
     }
 }
 
-/// Sends a frame: a sample of each channel that the request names, written in place. The sample stands for what a device measures.
+/// Sends a frame: a sample of each channel that the request names, written in place. The sample takes the place of a
+/// device's measurement.
 ///
 /// # Errors
 ///
@@ -55,7 +56,8 @@ fn send_frame(
     requires of { Has hub.old active.now (Of server.now pending.now) }
     requires awaits { AwaitsNothing hub.old pending.now }
     requires number { 0 < numbers_left hub.old }
-    ensures frame { (channels : List ℕ) → Has hub.old active.now (Asks channels) → OnOk result (Awaits hub.new pending.now server.now (frame channels time ∷ [])) }
+    ensures frame { (channels : List ℕ) → Has hub.old active.now (Asks channels)
+        → OnOk result (Awaits hub.new pending.now server.now (frame channels time ∷ [])) }
     ensures keeps { Keeps [] hub.old hub.new }
     ensures numbers { numbers_left hub.old ≤ numbers_left hub.new + 1 }
 {
@@ -81,8 +83,10 @@ fn read(
     requires client { Names hub.old client.now kind.Client }
     requires pending { Names hub.old pending.now kind.PendingResponse }
     requires of { Has hub.old pending.now (Of client.now pending.now) }
-    ensures extremes { (samples : List ℕ) → Awaits hub.old pending.now server.now (samples ∷ []) → IfOk result (λ came. came ≡ Some (extremes_of samples)) }
-    ensures done { (samples : List ℕ) → Awaits hub.old pending.now server.now (samples ∷ []) → IfOk result (λ came. AwaitsNothing hub.new pending.now) }
+    ensures extremes { (samples : List ℕ) → Awaits hub.old pending.now server.now (samples ∷ [])
+        → IfOk result (λ came. came ≡ Some (extremes_of samples)) }
+    ensures done { (samples : List ℕ) → Awaits hub.old pending.now server.now (samples ∷ [])
+        → IfOk result (λ came. AwaitsNothing hub.new pending.now) }
     ensures keeps { Keeps [] hub.old hub.new }
     ensures numbers { numbers_left hub.new ≡ numbers_left hub.old }
 {
@@ -143,7 +147,7 @@ fn frames_of(
 ///
 /// # Errors
 ///
-/// Each variant of `CallError` says when it comes.
+/// Each variant of `CallError` says which call failed.
 pub fn sense(
     alloc: Global,
     hub: &mut Service,

@@ -1,4 +1,4 @@
-//! A server that answers what is queued.
+//! A server that answers queued requests.
 #![tactic(auto, using(rr_ports::proofs::Frames::callers), unfolding(rr_ports::specs::Facts::Keeps, rr_ports::specs::Facts::IsFree))]
 
 ghost use Rattle.std.specs.Prelude.{◌<◌, []};
@@ -9,7 +9,8 @@ use crate::frames::Service;
 use rr_ports::ReceiveError;
 use rr_ports::typed::Server;
 
-/// Answers the oldest request with the double of its number, if there is a request, and releases it. Returns whether there was one.
+/// Answers the oldest request with the double of its number, if there is a request, and releases it. Returns whether
+/// there was one.
 ///
 /// # Errors
 ///
@@ -29,7 +30,8 @@ fn is_served(hub: &mut Service, server: &Server<u64>) -> Result<bool, ReceiveErr
     Ok(true)
 }
 
-/// Answers requests while there are any and the hub has numbers for one more and its answer. Returns how many requests were received.
+/// Answers requests while there are any and the hub has numbers for one more and its answer. Returns how many
+/// requests were received.
 ///
 /// # Errors
 ///

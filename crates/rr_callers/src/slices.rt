@@ -28,7 +28,7 @@ fn write(hub: &mut Service, request: &RequestMutUninit<u64>, values: &[u64])
     }
 }
 
-/// Sends a request if it is complete, and else releases it and returns `None`.
+/// Sends a request if it is complete, and otherwise releases it and returns `None`.
 ///
 /// # Errors
 ///
@@ -51,7 +51,8 @@ fn send(
     Ok(Some(request.send(hub)?))
 }
 
-/// Sends a request of `len` elements, the first of the values. Returns `None`, and sends nothing, if there are fewer values.
+/// Sends a request of `len` elements, the first of the values. Returns `None`, and sends nothing, if there are fewer
+/// values.
 ///
 /// # Errors
 ///
@@ -105,7 +106,7 @@ pub fn answer(hub: &mut Service, server: &Server<u64>)
     }
 }
 
-/// Returns the first element of the response that came, if one did, and releases it.
+/// Returns the first element of a response, if one is queued, and releases the response.
 pub fn receive(hub: &mut Service, pending: &PendingResponse<u64>) -> Option<u64>
     requires { Names hub.old pending.now kind.PendingResponse }
     ensures { Keeps [] hub.old hub.new }
@@ -137,7 +138,7 @@ pub fn written(
     Ok(request.write_from_slice(hub, values))
 }
 
-/// Writes a number everywhere, and promises what the request says.
+/// Writes a number to every element, and promises the request's elements.
 pub fn filled(
     hub: &mut Service,
     client: &Client<u64>,

@@ -1,4 +1,4 @@
-//! What callers prove of calls as changes of the message machine, as which a contract sees a hub.
+//! Proofs of callers about calls as changes of the message machine, which is how a contract sees a hub.
 #![tactic(auto)]
 
 ghost use Rattle.std.specs.Prelude.{◌≡◌, ◌<◌};
@@ -18,7 +18,7 @@ use rr_ports::{
 };
 use rr_slots::Body;
 
-/// Sends a request, and promises that the message machine sends it so.
+/// Sends a request, and promises the message machine's step for it.
 pub fn sent<QB: Body, QH: Default + Drop, PB: Body, PH: Default + Drop, K: BackpressureFn>(
     hub: &mut Hub<QB, QH, PB, PH, K>,
     request: RequestMut<QB>,
@@ -29,7 +29,7 @@ pub fn sent<QB: Body, QH: Default + Drop, PB: Body, PH: Default + Drop, K: Backp
     request.send(hub)
 }
 
-/// Sends a response, and promises that the message machine sends it so.
+/// Sends a response, and promises the message machine's step for it.
 pub fn responded<QB: Body, QH: Default + Drop, PB: Body, PH: Default + Drop, K: BackpressureFn>(
     hub: &mut Hub<QB, QH, PB, PH, K>,
     response: ResponseMut<PB>,
@@ -40,7 +40,7 @@ pub fn responded<QB: Body, QH: Default + Drop, PB: Body, PH: Default + Drop, K: 
     response.send(hub)
 }
 
-/// Receives a request, and promises that the message machine receives it so.
+/// Receives a request, and promises the message machine's step for it.
 pub fn heard<QB: Body, QH: Default + Drop, PB: Body, PH: Default + Drop, K: BackpressureFn>(
     hub: &mut Hub<QB, QH, PB, PH, K>,
     server: &Server<PB>,
@@ -52,7 +52,7 @@ pub fn heard<QB: Body, QH: Default + Drop, PB: Body, PH: Default + Drop, K: Back
     server.receive(hub)
 }
 
-/// Receives a response, and promises that the message machine receives it so.
+/// Receives a response, and promises the message machine's step for it.
 pub fn answered<QB: Body, QH: Default + Drop, PB: Body, PH: Default + Drop, K: BackpressureFn>(
     hub: &mut Hub<QB, QH, PB, PH, K>,
     pending: &PendingResponse<QB>,
@@ -74,7 +74,7 @@ pub fn hinted<QB: Body, QH: Default + Drop, PB: Body, PH: Default + Drop, K: Bac
     pending.set_disconnect_hint(hub);
 }
 
-/// Releases an active request, and promises the state that the message machine leaves.
+/// Releases an active request, and promises the message machine's state after it.
 pub fn ended<QB: Body, QH: Default + Drop, PB: Body, PH: Default + Drop, K: BackpressureFn>(
     hub: &mut Hub<QB, QH, PB, PH, K>,
     active: ActiveRequest<QB>,
@@ -85,7 +85,7 @@ pub fn ended<QB: Body, QH: Default + Drop, PB: Body, PH: Default + Drop, K: Back
     active.release(hub);
 }
 
-/// Tells a value, and promises that it is sent and its pending response released, or refused as a send is.
+/// Tells a value, and promises that it is sent and its pending response released, or refused like a send.
 pub fn told<T: Drop, QH: Default + Drop, PB: Body, PH: Default + Drop, K: BackpressureFn>(
     hub: &mut Hub<Option<T>, QH, PB, PH, K>,
     client: &Client<Option<T>>,
@@ -98,7 +98,7 @@ pub fn told<T: Drop, QH: Default + Drop, PB: Body, PH: Default + Drop, K: Backpr
     client.tell(hub, value)
 }
 
-/// Receives a request's value, and promises that the request is received and released, or refused as a receive is.
+/// Receives a request's value, and promises that the request is received and released, or refused like a receive.
 pub fn heard_copy<T: Copy, QH: Default + Drop, PB: Body, PH: Default + Drop, K: BackpressureFn>(
     hub: &mut Hub<Option<T>, QH, PB, PH, K>,
     server: &Server<PB>,
@@ -110,7 +110,7 @@ pub fn heard_copy<T: Copy, QH: Default + Drop, PB: Body, PH: Default + Drop, K: 
     server.receive_copy(hub)
 }
 
-/// Receives a response's value, and promises that the response is received and released, or refused as a receive is.
+/// Receives a response's value, and promises that the response is received and released, or refused like a receive.
 pub fn answered_copy<QB: Body, QH: Default + Drop, T: Copy, PH: Default + Drop, K: BackpressureFn>(
     hub: &mut Hub<QB, QH, Option<T>, PH, K>,
     pending: &PendingResponse<QB>,

@@ -12,7 +12,8 @@ use thiserror::Error;
 /// A service that answers numbers with numbers.
 pub type Service = Hub<u64, u64, u64, u64>;
 
-/// Sends a number as the next response, unless the client wants no more or no number is left. Returns whether it was sent.
+/// Sends a number as the next response, unless the client has set its hint or no number is left. Returns whether it
+/// was sent.
 fn is_sent(hub: &mut Service, active: &ActiveRequest<u64>, value: u64) -> bool
     requires { Names hub.old active.now kind.ActiveRequest }
     ensures { Keeps [] hub.old hub.new }
@@ -23,8 +24,8 @@ fn is_sent(hub: &mut Service, active: &ActiveRequest<u64>, value: u64) -> bool
     active.send_copy(hub, value).is_ok()
 }
 
-/// Sends numbers from 0 on as responses, up to `most` of them, and stops as soon as the client has set its hint, a send is refused
-/// or no number is left. Returns how many were sent.
+/// Sends numbers from 0 on as responses, up to `most` of them, and stops as soon as the client has set its hint, a
+/// send is refused or no number is left. Returns how many were sent.
 pub fn answer(hub: &mut Service, active: &ActiveRequest<u64>, most: u64) -> u64
     requires { Names hub.old active.now kind.ActiveRequest }
     ensures keeps { Keeps [] hub.old hub.new }
@@ -38,7 +39,7 @@ pub fn answer(hub: &mut Service, active: &ActiveRequest<u64>, most: u64) -> u64
     most
 }
 
-/// Receives the next response and releases it. Returns whether one came.
+/// Receives the next response and releases it. Returns whether there was one.
 fn is_received(hub: &mut Service, pending: &PendingResponse<u64>) -> bool
     requires { Names hub.old pending.now kind.PendingResponse }
     ensures { Keeps [] hub.old hub.new }
@@ -46,8 +47,8 @@ fn is_received(hub: &mut Service, pending: &PendingResponse<u64>) -> bool
     matches!(pending.receive_copy(hub), Ok(Some(_)))
 }
 
-/// Receives responses until none is queued, or the client has as many as it wants, and sets its hint in that case. Returns how many
-/// it wants still.
+/// Receives responses until none is queued, or the client has as many as it wants; in that case sets its hint.
+/// Returns how many it still wants.
 pub fn receive(hub: &mut Service, pending: &PendingResponse<u64>, wanted: u64) -> u64
     requires { Names hub.old pending.now kind.PendingResponse }
     ensures keeps { Keeps [] hub.old hub.new }
@@ -76,7 +77,7 @@ pub enum StreamError {
     NoNumbersLeft,
 }
 
-/// How a stream went.
+/// The counts of a stream.
 #[derive(Clone, Copy, Debug, PartialEq, Eq)]
 pub struct Streamed {
     /// How many responses the server sent.
@@ -85,7 +86,7 @@ pub struct Streamed {
     pub came: u64,
 }
 
-/// Has the server send two responses and the client receive them, over and over, until the server sends none.
+/// Makes the server send two responses and the client receive them, over and over, until the server sends none.
 fn take_turns(
     hub: &mut Service,
     active: &ActiveRequest<u64>,
@@ -116,12 +117,12 @@ fn take_turns(
     }
 }
 
-/// Asks a server for a stream of responses, and ends it once as many came as are wanted. Returns how many were sent, and how many
-/// came.
+/// Asks a server for a stream of responses, and ends it once the client has as many as it wants. Returns how many
+/// were sent, and how many were received.
 ///
 /// # Errors
 ///
-/// Each variant of `StreamError` says when it comes.
+/// Each variant of `StreamError` says which call failed.
 pub fn stream(
     hub: &mut Service,
     client: &Client<u64>,

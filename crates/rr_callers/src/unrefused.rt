@@ -10,7 +10,7 @@ ghost use Rattle.rr_ports.specs.Queues.{Awaits, AwaitsNothing, Hears, HearsNothi
 use crate::frames::Service;
 use rr_ports::typed::{ActiveRequest, Client, PendingResponse, Server};
 
-/// Answers a request that is its server's only handle, and awaits nothing yet.
+/// Answers a request that is its server's only handle, and for which no response is queued yet.
 pub fn reply(
     hub: &mut Service,
     server: &Server<u64>,
@@ -37,7 +37,7 @@ pub fn reply(
     }
 }
 
-/// Answers the one question that is queued for a server that has no handle, as `answer_by` says. Returns the answer.
+/// Answers the only question in the queue of a server that has no handle, as `answer_by` does. Returns the answer.
 pub fn answer<F: FnOnce(u64) -> u64>(
     hub: &mut Service,
     server: &Server<u64>,
@@ -75,7 +75,7 @@ pub fn answer<F: FnOnce(u64) -> u64>(
     }
 }
 
-/// Receives the one answer that is queued for the only handle of a client.
+/// Receives the only answer that is queued for the only handle of a client.
 pub fn receive(
     hub: &mut Service,
     client: &Client<u64>,
@@ -101,8 +101,8 @@ pub fn receive(
     }
 }
 
-/// Sends a question, lets the server answer it as `answer_by` says, and returns the answer. No call of it is refused, and both ports
-/// have no handle again.
+/// Sends a question, makes the server answer it as `answer_by` does, and returns the answer. None of its calls is
+/// refused, and both ports have no handle afterwards.
 pub fn call<F: FnOnce(u64) -> u64>(
     hub: &mut Service,
     client: &Client<u64>,

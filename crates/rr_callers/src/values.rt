@@ -1,4 +1,4 @@
-//! What callers prove of values: what was written is what is read.
+//! Proofs of callers about values: a reader gets the value that was written.
 #![tactic(auto, using(rr_ports::proofs::Frames::callers), unfolding(rr_ports::specs::Facts::Keeps, rr_ports::specs::Facts::IsFree))]
 
 ghost use Rattle.std.specs.Prelude.{◌≡◌, ◌≢◌, ◌<◌, ◌≤◌, ◌+◌, ◌∷◌, [], IfOk, ℕ};
@@ -11,7 +11,7 @@ use rr_ports::typed::{
 };
 use rr_ports::{LoanError, RequestSendError};
 
-/// Returns a written request, and promises what it says.
+/// Returns a written request, and promises its value.
 pub fn written(
     hub: &mut Service,
     client: &Client<u64>,
@@ -50,7 +50,7 @@ pub fn first_of_two(
     Ok(read)
 }
 
-/// Writes two requests that came by value, and reads the first after the second is gone.
+/// Writes two requests that are passed by value, and reads the first after the second was released.
 pub fn second_kept(
     hub: &mut Service,
     one: RequestMutUninit<u64>,
@@ -72,7 +72,7 @@ pub fn second_kept(
     read
 }
 
-/// Sends a request, and reads what its pending response says.
+/// Sends a request, and reads it through its pending response.
 pub fn sent(
     hub: &mut Service,
     client: &Client<u64>,
@@ -90,7 +90,7 @@ pub fn sent(
     Ok((pending, read))
 }
 
-/// Loans and writes a response, and promises what it says.
+/// Loans and writes a response, and promises its value.
 pub fn answer_written(
     hub: &mut Service,
     active: &ActiveRequest<u64>,
@@ -127,19 +127,20 @@ pub fn read_both(
     Ok(read)
 }
 
-/// Writes a number into a request through a `&mut`, and promises what the request says.
+/// Writes a number into a request through a `&mut`, and promises the request's value.
 #[tactic(auto, using(rr_ports::proofs::Frames::borrowers), unfolding(rr_ports::specs::Facts::Keeps, rr_ports::specs::Facts::IsFree))]
 pub fn rewritten(hub: &mut Service, request: &RequestMut<u64>, value: u64)
     requires { Names hub.old request.now kind.RequestMut }
     ensures kind { Names hub.new request.now kind.RequestMut }
     ensures says { Has hub.new request.now (Asks (value ∷ [])) }
-    ensures of { (port pending : ℕ) → Has hub.old request.now (Of port pending) → Has hub.new request.now (Of port pending) }
+    ensures of { (port pending : ℕ) → Has hub.old request.now (Of port pending)
+        → Has hub.new request.now (Of port pending) }
     ensures keeps { Keeps (request.now ∷ []) hub.old hub.new }
 {
     *RequestMut::payload_mut(hub, request) = value;
 }
 
-/// Has a function replace a number in place, and promises what the request says.
+/// Has a function replace a number in place, and promises the request's value.
 pub fn replaced(hub: &mut Service, request: &RequestMut<u64>, old: u64)
     requires request { Names hub.old request.now kind.RequestMut }
     requires asks { Has hub.old request.now (Asks (old ∷ [])) }

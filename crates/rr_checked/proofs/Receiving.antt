@@ -1,7 +1,7 @@
 -- What a server received stands under the number that it was given.
 use Rattle.std.proofs.Common.{◌≡◌, ℕ, Some, sym, ap, ◌∙◌, Ok}
 use Rattle.std.specs.Prelude.{IsSome, is_some, option_and_then}
-use Rattle.rr_map_laws.proofs.MapLaws.{get-insert_same}
+use Rattle.rr_table.proofs.MapLaws.{get-insert_same}
 use Rattle.rr_protocol.specs.Messages.{ActiveRequest, as_active}
 use Rattle.rr_protocol.specs.State.{State, active_at, handle_at}
 use Rattle.rr_protocol.specs.Receives.{ReceivesRequest}

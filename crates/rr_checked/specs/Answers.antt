@@ -1,6 +1,6 @@
--- What a call answers, as a reply of the message machine.
+-- The result of a call as a reply of the message machine.
 use Rattle.std.specs.Prelude.{ℕ, Option, Some, None, Result, Ok, Err}
-use Rattle.rr_commands.specs.declared.reply.Reply.{Reply}
+use Rattle.rr_protocol.specs.declared.reply.Reply.{Reply}
 use Rattle.rr_checked.specs.declared.refusal.Refusal.{Refusal}
 use Rattle.rr_checked.specs.declared.refusal.Refusal.TheVariants as refusal
 use Rattle.rr_checked.specs.declared.sends.Sent.{Sent}
@@ -29,7 +29,7 @@ module _ {T H : Type 0} where
   replied reply (Ok value) = reply value
   replied reply (Err error) = refused error
 
-  -- what was sent is a pending response then, with so many connections, or a response that is gone
+  -- the sent message is now a pending response, with this many connections, or a response that was released
   abbrev pub sent : ℕ → Sent → Reply T H
   sent n (sent_as.Request connections) = Reply.Pending n connections
   sent n sent_as.Response = Reply.Sent n
@@ -39,7 +39,7 @@ module _ {T H : Type 0} where
   shown (header.Request said) = Reply.RequestHeader said
   shown (header.Response said) = Reply.ResponseHeader said
 
-  -- what was received is an active request with its request's number, or a response; or nothing was
+  -- an active request was received, with its request's number, or a response; or nothing was
   abbrev pub received : Option Received → Reply T H
   received (Some (received_as.Request k request)) = Reply.Active k request
   received (Some (received_as.Response k)) = Reply.Response k

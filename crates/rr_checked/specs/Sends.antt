@@ -1,4 +1,4 @@
--- What a send by number does, by what it is answered.
+-- A send by number, by its answer.
 use Rattle.std.specs.Prelude.{◌≡◌, ℕ, Result, Ok, Err}
 use Rattle.rr_protocol.specs.declared.settings.BackpressureAction.{BackpressureAction}
 use Rattle.rr_protocol.specs.State.{State}
@@ -9,7 +9,8 @@ use Rattle.rr_checked.specs.declared.sends.Sent.{Sent}
 use Rattle.rr_checked.specs.declared.sends.Sent.TheVariants as sent_as
 
 -- a request is sent, or a response; or nothing is, and nothing has changed
-abbrev pub SendsEither : {Q QH P PH K : Type 0} → (K → ℕ → ℕ → BackpressureAction) → State Q QH P PH K → ℕ → Result Sent Refusal → State Q QH P PH K → Type 0
+abbrev pub SendsEither : {Q QH P PH K : Type 0} → (K → ℕ → ℕ → BackpressureAction) → State Q QH P PH K → ℕ
+    → Result Sent Refusal → State Q QH P PH K → Type 0
 SendsEither action old n (Ok (sent_as.Request connections)) new = SendsRequest action old n (Ok connections) new
 SendsEither action old n (Ok sent_as.Response) new = SendsResponse action old n (Ok n) new
 SendsEither action old n (Err (refusal.Request error)) new = SendsRequest action old n (Err error) new

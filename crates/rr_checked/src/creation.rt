@@ -1,9 +1,9 @@
 //! Creating ports.
 ghost use Rattle.std.specs.Prelude.{◌≡◌, IsTrue};
 ghost use Rattle.rr_slots.specs.Families.{takes_len};
-ghost use Rattle.rr_commands.specs.declared.command.Command.{Command};
-ghost use Rattle.rr_commands.specs.declared.reply.Reply.{Reply};
-ghost use Rattle.rr_commands.specs.Step.{Step, client_settings, server_settings};
+ghost use Rattle.rr_protocol.specs.declared.command.Command.{Command};
+ghost use Rattle.rr_protocol.specs.declared.reply.Reply.{Reply};
+ghost use Rattle.rr_protocol.specs.Step.{Step, client_settings, server_settings};
 ghost use Rattle.rr_checked.specs.Answers.{replied};
 
 use crate::refusal::Refusal;
@@ -22,7 +22,8 @@ pub fn create_client<
     H: Copy + Default,
     K: BackpressureFn,
 >(core: &mut Core<B, H, B, H, K>, settings: ClientSettings<K>) -> Result<u64, Refusal>
-    ensures { Step K.action T.is_default H.is_default B.family core.old (Command.CreateClient settings) (replied Reply.Created result) core.new }
+    ensures { Step K.action T.is_default H.is_default B.family core.old (Command.CreateClient settings)
+        (replied Reply.Created result) core.new }
 {
     match core.create_client(client_settings(B::family(), settings)) {
         Ok(number) => Ok(number),
@@ -41,7 +42,8 @@ pub fn create_server<
     H: Copy + Default,
     K: BackpressureFn,
 >(core: &mut Core<B, H, B, H, K>, settings: ServerSettings<K>) -> Result<u64, Refusal>
-    ensures { Step K.action T.is_default H.is_default B.family core.old (Command.CreateServer settings) (replied Reply.Created result) core.new }
+    ensures { Step K.action T.is_default H.is_default B.family core.old (Command.CreateServer settings)
+        (replied Reply.Created result) core.new }
 {
     match core.create_server(server_settings(B::family(), settings)) {
         Ok(number) => Ok(number),

@@ -1,7 +1,9 @@
-//! Calls on a hub's core that take any number: each tests what it is passed, and refuses by name where its caller erred.
+//! Calls on a hub's core that take any number: each tests its arguments, and refuses with a named error if its caller
+//! erred.
 //!
-//! Callers that can't prove that a number names a port or a handle make them: the runner of commands, and programs in other languages.
-//! Each is the step of a command of the message machine, with a reply that says what the call returns.
+//! They are for callers that can't prove that a number names a port or a handle: the runner of commands, and programs
+//! in other languages. Each is the step of a command of the message machine, with a reply that reports the call's
+//! result.
 #![tactic(auto)]
 
 mod creation;

@@ -1,16 +1,16 @@
-//! What a number names, as calls on messages see it.
+//! The kinds of numbers, as calls on messages see them.
 ghost use Rattle.rr_checked.specs.Naming.{NamesMessage, NamesUnsent};
 
 use rr_hub::{Core, HandleId};
 use rr_protocol::{BackpressureFn, Kind};
 use rr_slots::Body;
 
-/// What a number names, for a call that some kinds of messages have.
+/// The kind of a number, for a call that some kinds of messages have.
 #[derive(Clone, Copy)]
 pub(crate) enum Named {
     /// Neither a port nor a handle.
     Nothing,
-    /// What doesn't have the call.
+    /// A kind without the call.
     Other,
     /// A request that has it.
     Request,
@@ -18,7 +18,7 @@ pub(crate) enum Named {
     Response,
 }
 
-/// Returns what a number names, for calls that every message has.
+/// Returns the kind of a number, for calls that every message has.
 pub(crate) fn message<T: Copy + Default, B: Body<Item = T>, H: Copy + Default, K: BackpressureFn>(
     core: &Core<B, H, B, H, K>,
     id: &HandleId,
@@ -35,7 +35,7 @@ pub(crate) fn message<T: Copy + Default, B: Body<Item = T>, H: Copy + Default, K
     }
 }
 
-/// Returns what a number names, for calls that messages have before they are sent.
+/// Returns the kind of a number, for calls that messages have before they are sent.
 pub(crate) fn unsent<T: Copy + Default, B: Body<Item = T>, H: Copy + Default, K: BackpressureFn>(
     core: &Core<B, H, B, H, K>,
     id: &HandleId,

@@ -1,7 +1,7 @@
-//! What ports tell, and queues. None of it changes a core.
-ghost use Rattle.rr_commands.specs.declared.command.Command.{Command};
-ghost use Rattle.rr_commands.specs.declared.reply.Reply.{Reply};
-ghost use Rattle.rr_commands.specs.Step.{Step};
+//! Queries of ports and of queues. None changes the core.
+ghost use Rattle.rr_protocol.specs.declared.command.Command.{Command};
+ghost use Rattle.rr_protocol.specs.declared.reply.Reply.{Reply};
+ghost use Rattle.rr_protocol.specs.Step.{Step};
 ghost use Rattle.rr_checked.specs.Answers.{replied};
 
 use crate::refusal::Refusal;
@@ -9,8 +9,8 @@ use rr_hub::{Core, HandleId};
 use rr_protocol::{BackpressureFn, BackpressureStrategy, Kind};
 use rr_slots::Body;
 
-/// Returns whether a queue has an entry from which a server, or a pending response, would receive. Not in iceoryx2 for any number:
-/// `Server::has_requests`, `PendingResponse::has_response`.
+/// Returns whether a queue that a server, or a pending response, receives from has an entry. Not in iceoryx2 for any
+/// number: `Server::has_requests`, `PendingResponse::has_response`.
 ///
 /// # Errors
 ///
@@ -19,7 +19,8 @@ pub fn has_entries<T: Copy + Default, B: Body<Item = T>, H: Copy + Default, K: B
     core: &Core<B, H, B, H, K>,
     id: &HandleId,
 ) -> Result<bool, Refusal>
-    ensures { Step K.action T.is_default H.is_default B.family core.now (Command.HasEntries id.now) (replied Reply.Flag result) core.now }
+    ensures { Step K.action T.is_default H.is_default B.family core.now (Command.HasEntries id.now)
+        (replied Reply.Flag result) core.now }
 {
     match core.kind(id) {
         Some(Kind::Server) => Ok(core.has_requests(id.number())),
@@ -38,7 +39,8 @@ pub fn is_deliverable<T: Copy + Default, B: Body<Item = T>, H: Copy + Default, K
     core: &Core<B, H, B, H, K>,
     id: &HandleId,
 ) -> Result<bool, Refusal>
-    ensures { Step K.action T.is_default H.is_default B.family core.now (Command.IsDeliverable id.now) (replied Reply.Flag result) core.now }
+    ensures { Step K.action T.is_default H.is_default B.family core.now (Command.IsDeliverable id.now)
+        (replied Reply.Flag result) core.now }
 {
     match core.kind(id) {
         Some(Kind::RequestMut) => Ok(core.is_request_deliverable(id)),
@@ -57,7 +59,8 @@ pub fn strategy<T: Copy + Default, B: Body<Item = T>, H: Copy + Default, K: Back
     core: &Core<B, H, B, H, K>,
     id: &HandleId,
 ) -> Result<BackpressureStrategy, Refusal>
-    ensures { Step K.action T.is_default H.is_default B.family core.now (Command.Strategy id.now) (replied Reply.Strategy result) core.now }
+    ensures { Step K.action T.is_default H.is_default B.family core.now (Command.Strategy id.now)
+        (replied Reply.Strategy result) core.now }
 {
     match core.kind(id) {
         Some(Kind::Client) => Ok(core.client_backpressure_strategy(id.number())),
@@ -67,8 +70,8 @@ pub fn strategy<T: Copy + Default, B: Body<Item = T>, H: Copy + Default, K: Back
     }
 }
 
-/// Returns for how many elements each of a port's slots has room from the start. After iceoryx2's `initial_max_slice_len` of `Client`
-/// and `Server`.
+/// Returns how many elements each of a port's slots has room for from the start. After iceoryx2's
+/// `initial_max_slice_len` of `Client` and `Server`.
 ///
 /// # Errors
 ///
@@ -77,7 +80,8 @@ pub fn max_slice_len<T: Copy + Default, B: Body<Item = T>, H: Copy + Default, K:
     core: &Core<B, H, B, H, K>,
     id: &HandleId,
 ) -> Result<usize, Refusal>
-    ensures { Step K.action T.is_default H.is_default B.family core.now (Command.MaxSliceLen id.now) (replied Reply.Count result) core.now }
+    ensures { Step K.action T.is_default H.is_default B.family core.now (Command.MaxSliceLen id.now)
+        (replied Reply.Count result) core.now }
 {
     match core.kind(id) {
         Some(Kind::Client) => Ok(core.client_initial_max_slice_len(id.number())),
@@ -87,8 +91,8 @@ pub fn max_slice_len<T: Copy + Default, B: Body<Item = T>, H: Copy + Default, K:
     }
 }
 
-/// Changes nothing: a port is connected with all ports of the other side from the creation of the later one on. After iceoryx2's
-/// `UpdateConnections::update_connections`.
+/// Changes nothing: a port is connected with all ports of the other side as soon as both are created. After
+/// iceoryx2's `UpdateConnections::update_connections`.
 ///
 /// # Errors
 ///
@@ -99,7 +103,8 @@ pub fn update_connections<
     H: Copy + Default,
     K: BackpressureFn,
 >(core: &Core<B, H, B, H, K>, id: &HandleId) -> Result<(), Refusal>
-    ensures { Step K.action T.is_default H.is_default B.family core.now (Command.UpdateConnections id.now) (replied (λ done. Reply.Done) result) core.now }
+    ensures { Step K.action T.is_default H.is_default B.family core.now (Command.UpdateConnections id.now)
+        (replied (λ done. Reply.Done) result) core.now }
 {
     match core.kind(id) {
         Some(Kind::Client | Kind::Server) => Ok(()),

@@ -1,10 +1,10 @@
-//! What handles tell. None of it changes a core.
+//! Queries of handles. None changes the core.
 ghost use Rattle.std.specs.Prelude.{◌≡◌, IfOk, IsSomeAnd};
 ghost use Rattle.rr_protocol.specs.State.{handle_at};
-ghost use Rattle.rr_commands.specs.declared.command.Command.{Command};
-ghost use Rattle.rr_commands.specs.declared.reply.Reply.{Reply};
-ghost use Rattle.rr_commands.specs.Refusals.{content_in};
-ghost use Rattle.rr_commands.specs.Step.{Step};
+ghost use Rattle.rr_protocol.specs.declared.command.Command.{Command};
+ghost use Rattle.rr_protocol.specs.declared.reply.Reply.{Reply};
+ghost use Rattle.rr_protocol.specs.Refusals.{content_in};
+ghost use Rattle.rr_protocol.specs.Step.{Step};
 ghost use Rattle.rr_checked.specs.Answers.{replied, shown};
 
 use crate::naming::{self, Named};
@@ -22,7 +22,8 @@ pub enum MessageHeader {
     Response(ResponseHeader),
 }
 
-/// Returns whether a pending response waits for a server, or an active request for its client. After iceoryx2's `is_connected` of both.
+/// Returns whether a pending response waits for a server, or an active request for its client. After iceoryx2's
+/// `is_connected` of both.
 ///
 /// # Errors
 ///
@@ -31,7 +32,8 @@ pub fn is_connected<T: Copy + Default, B: Body<Item = T>, H: Copy + Default, K: 
     core: &Core<B, H, B, H, K>,
     id: &HandleId,
 ) -> Result<bool, Refusal>
-    ensures { Step K.action T.is_default H.is_default B.family core.now (Command.IsConnected id.now) (replied Reply.Flag result) core.now }
+    ensures { Step K.action T.is_default H.is_default B.family core.now (Command.IsConnected id.now)
+        (replied Reply.Flag result) core.now }
 {
     match core.kind(id) {
         Some(Kind::PendingResponse) => Ok(core.is_pending_connected(id)),
@@ -41,7 +43,8 @@ pub fn is_connected<T: Copy + Default, B: Body<Item = T>, H: Copy + Default, K: 
     }
 }
 
-/// Returns how many queues took a request as it was sent. After iceoryx2's `PendingResponse::number_of_server_connections`.
+/// Returns how many servers' queues took a request when it was sent. After iceoryx2's
+/// `PendingResponse::number_of_server_connections`.
 ///
 /// # Errors
 ///
@@ -50,7 +53,8 @@ pub fn servers<T: Copy + Default, B: Body<Item = T>, H: Copy + Default, K: Backp
     core: &Core<B, H, B, H, K>,
     id: &HandleId,
 ) -> Result<usize, Refusal>
-    ensures { Step K.action T.is_default H.is_default B.family core.now (Command.Servers id.now) (replied Reply.Count result) core.now }
+    ensures { Step K.action T.is_default H.is_default B.family core.now (Command.Servers id.now)
+        (replied Reply.Count result) core.now }
 {
     match core.kind(id) {
         Some(Kind::PendingResponse) => Ok(core.number_of_server_connections(id)),
@@ -59,7 +63,8 @@ pub fn servers<T: Copy + Default, B: Body<Item = T>, H: Copy + Default, K: Backp
     }
 }
 
-/// Returns whether the client of an active request set the disconnect hint. After iceoryx2's `ActiveRequest::has_disconnect_hint`.
+/// Returns whether the client of an active request set the disconnect hint. After iceoryx2's
+/// `ActiveRequest::has_disconnect_hint`.
 ///
 /// # Errors
 ///
@@ -68,7 +73,8 @@ pub fn has_hint<T: Copy + Default, B: Body<Item = T>, H: Copy + Default, K: Back
     core: &Core<B, H, B, H, K>,
     id: &HandleId,
 ) -> Result<bool, Refusal>
-    ensures { Step K.action T.is_default H.is_default B.family core.now (Command.HasHint id.now) (replied Reply.Flag result) core.now }
+    ensures { Step K.action T.is_default H.is_default B.family core.now (Command.HasHint id.now)
+        (replied Reply.Flag result) core.now }
 {
     match core.kind(id) {
         Some(Kind::ActiveRequest) => Ok(core.has_disconnect_hint(id)),
@@ -86,7 +92,8 @@ pub fn header<T: Copy + Default, B: Body<Item = T>, H: Copy + Default, K: Backpr
     core: &Core<B, H, B, H, K>,
     id: &HandleId,
 ) -> Result<MessageHeader, Refusal>
-    ensures { Step K.action T.is_default H.is_default B.family core.now (Command.Header id.now) (replied shown result) core.now }
+    ensures { Step K.action T.is_default H.is_default B.family core.now (Command.Header id.now) (replied shown result)
+        core.now }
 {
     match naming::message(core, id) {
         Named::Request => Ok(MessageHeader::Request(core.request_header(id))),
@@ -105,8 +112,10 @@ pub fn body<'a, T: Copy + Default, B: Body<Item = T>, H: Copy + Default, K: Back
     core: &'a Core<B, H, B, H, K>,
     id: &HandleId,
 ) -> Result<&'a B, Refusal>
-    ensures step { Step K.action T.is_default H.is_default B.family core.now (Command.Payload id.now) (replied (λ body. Reply.Payload (B.elements body.now)) result) core.now }
-    ensures said { IfOk result (λ body. IsSomeAnd (handle_at core.now id.now) (λ handle. B.elements body.now ≡ (content_in handle).elements)) }
+    ensures step { Step K.action T.is_default H.is_default B.family core.now (Command.Payload id.now)
+        (replied (λ body. Reply.Payload (B.elements body.now)) result) core.now }
+    ensures said { IfOk result (λ body. IsSomeAnd (handle_at core.now id.now)
+        (λ handle. B.elements body.now ≡ (content_in handle).elements)) }
 {
     match naming::message(core, id) {
         Named::Request => Ok(core.request_body(id)),
@@ -116,7 +125,8 @@ pub fn body<'a, T: Copy + Default, B: Body<Item = T>, H: Copy + Default, K: Back
     }
 }
 
-/// Returns the user header of a message. After iceoryx2's `user_header` of each type of message, which returns a reference.
+/// Returns the user header of a message. After iceoryx2's `user_header` of each type of message, which returns a
+/// reference.
 ///
 /// # Errors
 ///
@@ -125,7 +135,8 @@ pub fn user_header<T: Copy + Default, B: Body<Item = T>, H: Copy + Default, K: B
     core: &Core<B, H, B, H, K>,
     id: &HandleId,
 ) -> Result<H, Refusal>
-    ensures { Step K.action T.is_default H.is_default B.family core.now (Command.UserHeader id.now) (replied Reply.UserHeader result) core.now }
+    ensures { Step K.action T.is_default H.is_default B.family core.now (Command.UserHeader id.now)
+        (replied Reply.UserHeader result) core.now }
 {
     match naming::message(core, id) {
         Named::Request => Ok(*core.request_user_header(id)),
@@ -144,7 +155,8 @@ pub fn origin<T: Copy + Default, B: Body<Item = T>, H: Copy + Default, K: Backpr
     core: &Core<B, H, B, H, K>,
     id: &HandleId,
 ) -> Result<u64, Refusal>
-    ensures { Step K.action T.is_default H.is_default B.family core.now (Command.Origin id.now) (replied Reply.Id result) core.now }
+    ensures { Step K.action T.is_default H.is_default B.family core.now (Command.Origin id.now)
+        (replied Reply.Id result) core.now }
 {
     match core.kind(id) {
         Some(Kind::ActiveRequest) => Ok(core.request_origin(id).0),

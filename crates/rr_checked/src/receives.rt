@@ -2,8 +2,8 @@
 ghost use Rattle.std.specs.Prelude.{◌≡◌, Some};
 ghost use Rattle.rr_protocol.specs.declared.kind.Kind.TheVariants as kind;
 ghost use Rattle.rr_protocol.specs.Queries.{kind_at};
-ghost use Rattle.rr_commands.specs.declared.command.Command.{Command};
-ghost use Rattle.rr_commands.specs.Step.{Step};
+ghost use Rattle.rr_protocol.specs.declared.command.Command.{Command};
+ghost use Rattle.rr_protocol.specs.Step.{Step};
 ghost use Rattle.rr_checked.specs.Answers.{received, replied};
 
 use crate::refusal::Refusal;
@@ -11,7 +11,7 @@ use rr_hub::{Core, HandleId};
 use rr_protocol::{BackpressureFn, Kind};
 use rr_slots::Body;
 
-/// What was received.
+/// A received message.
 #[derive(Drop)]
 pub enum Received {
     /// An active request, and the number of its request.
@@ -20,7 +20,8 @@ pub enum Received {
     Response(HandleId),
 }
 
-/// Receives a request of a server, or a response of a pending response, if one is queued. After iceoryx2's `receive` of both.
+/// Receives a request of a server, or a response of a pending response, if one is queued. After iceoryx2's `receive`
+/// of both.
 ///
 /// # Errors
 ///
@@ -31,7 +32,8 @@ pub fn receive<T: Copy + Default, B: Body<Item = T>, H: Copy + Default, K: Backp
     core: &mut Core<B, H, B, H, K>,
     id: &HandleId,
 ) -> Result<Option<Received>, Refusal>
-    ensures { Step K.action T.is_default H.is_default B.family core.old (Command.Receive id.now) (replied received result) core.new }
+    ensures { Step K.action T.is_default H.is_default B.family core.old (Command.Receive id.now)
+        (replied received result) core.new }
 {
     match core.kind(id) {
         Some(Kind::Server) => receive_request(core, id.number()),
@@ -51,7 +53,8 @@ fn receive_request<T: Copy + Default, B: Body<Item = T>, H: Copy + Default, K: B
     server: u64,
 ) -> Result<Option<Received>, Refusal>
     requires { kind_at core.old server ≡ Some kind.Server }
-    ensures { Step K.action T.is_default H.is_default B.family core.old (Command.Receive server) (replied received result) core.new }
+    ensures { Step K.action T.is_default H.is_default B.family core.old (Command.Receive server)
+        (replied received result) core.new }
 {
     if core.numbers_left() == 0 {
         return Err(Refusal::NumbersExhausted);

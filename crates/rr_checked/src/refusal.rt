@@ -8,22 +8,23 @@ use rr_protocol::{
 };
 use thiserror::Error;
 
-/// Why a call was refused. Not in iceoryx2, whose calls can't be made on what isn't there.
+/// Why a call was refused. Not in iceoryx2, whose calls need a live port or handle.
 ///
-/// Nothing has changed then, but for two calls: a message whose send is refused is released, and a server whose receive is refused
-/// has dropped the requests at the heads of its queues that no client waits for, as a receive that finds nothing does.
+/// Nothing has changed then, except for two calls: a message whose send is refused is released, and a server whose
+/// receive is refused has dropped the dead requests at the fronts of its queues, as a receive that finds nothing
+/// does.
 #[derive(Clone, Copy, Debug, PartialEq, Eq, Hash, Error)]
 pub enum Refusal {
     /// The number names neither a port nor a handle.
     #[error("Refusal::Unknown")]
     Unknown,
-    /// What the number names has no such call.
+    /// The kind of the number has no such call.
     #[error("Refusal::WrongKind")]
     WrongKind,
-    /// The hub has given all its numbers.
+    /// The hub has assigned all its numbers.
     #[error("Refusal::NumbersExhausted")]
     NumbersExhausted,
-    /// The payload is not written as far as was asked for.
+    /// Fewer elements were written than were loaned.
     #[error("Refusal::Incomplete")]
     Incomplete,
     /// A client is not created.
@@ -47,7 +48,8 @@ pub enum Refusal {
 }
 
 impl Refusal {
-    /// Returns the refusal's code, which is not 0. An error that a loan, a send and a request have in common has one code.
+    /// Returns the refusal's code, which is not 0. An error that a loan, a send and a request have in common has one
+    /// code.
     pub fn code(self) -> u32
         ensures { result ≡ code self }
     {

@@ -1,9 +1,9 @@
 //! Releasing ports and handles.
 ghost use Rattle.std.specs.Prelude.{◌≡◌, IfOk, OnErr};
 ghost use Rattle.rr_protocol.specs.Releases.{after_release};
-ghost use Rattle.rr_commands.specs.declared.command.Command.{Command};
-ghost use Rattle.rr_commands.specs.declared.reply.Reply.{Reply};
-ghost use Rattle.rr_commands.specs.Step.{Step};
+ghost use Rattle.rr_protocol.specs.declared.command.Command.{Command};
+ghost use Rattle.rr_protocol.specs.declared.reply.Reply.{Reply};
+ghost use Rattle.rr_protocol.specs.Step.{Step};
 ghost use Rattle.rr_checked.specs.Answers.{replied};
 
 use crate::refusal::Refusal;
@@ -20,7 +20,8 @@ pub fn release<T: Copy + Default, B: Body<Item = T>, H: Copy + Default, K: Backp
     core: &mut Core<B, H, B, H, K>,
     id: &HandleId,
 ) -> Result<(), Refusal>
-    ensures step { Step K.action T.is_default H.is_default B.family core.old (Command.Release id.now) (replied (λ done. Reply.Done) result) core.new }
+    ensures step { Step K.action T.is_default H.is_default B.family core.old (Command.Release id.now)
+        (replied (λ done. Reply.Done) result) core.new }
     ensures released { IfOk result (λ done. core.new ≡ after_release core.old id.now) }
     ensures unknown { OnErr result (core.new ≡ core.old) }
 {

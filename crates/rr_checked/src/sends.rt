@@ -1,6 +1,6 @@
 //! Sends.
-ghost use Rattle.rr_commands.specs.declared.command.Command.{Command};
-ghost use Rattle.rr_commands.specs.Step.{Step};
+ghost use Rattle.rr_protocol.specs.declared.command.Command.{Command};
+ghost use Rattle.rr_protocol.specs.Step.{Step};
 ghost use Rattle.rr_checked.specs.Answers.{replied, sent};
 ghost use Rattle.rr_checked.specs.Sends.{SendsEither};
 
@@ -9,12 +9,12 @@ use rr_hub::{Core, HandleId};
 use rr_protocol::{BackpressureFn, Kind};
 use rr_slots::Body;
 
-/// What was sent.
+/// A sent message.
 #[derive(Clone, Copy, Debug, PartialEq, Eq)]
 pub enum Sent {
-    /// A request, which is a pending response under its number then, and was put in so many queues.
+    /// A request, now a pending response under its number, and the number of queues that took it.
     Request(usize),
-    /// A response, which is gone.
+    /// A response, whose handle was released.
     Response,
 }
 
@@ -28,7 +28,8 @@ pub fn send<T: Copy + Default, B: Body<Item = T>, H: Copy + Default, K: Backpres
     core: &mut Core<B, H, B, H, K>,
     id: &HandleId,
 ) -> Result<Sent, Refusal>
-    ensures step { Step K.action T.is_default H.is_default B.family core.old (Command.Send id.now) (replied (sent id.now) result) core.new }
+    ensures step { Step K.action T.is_default H.is_default B.family core.old (Command.Send id.now)
+        (replied (sent id.now) result) core.new }
     ensures sends { SendsEither K.action core.old id.now result core.new }
 {
     match core.kind(id) {

@@ -1,7 +1,7 @@
 //! Writing messages before they are sent.
-ghost use Rattle.rr_commands.specs.declared.command.Command.{Command};
-ghost use Rattle.rr_commands.specs.declared.reply.Reply.{Reply};
-ghost use Rattle.rr_commands.specs.Step.{Step};
+ghost use Rattle.rr_protocol.specs.declared.command.Command.{Command};
+ghost use Rattle.rr_protocol.specs.declared.reply.Reply.{Reply};
+ghost use Rattle.rr_protocol.specs.Step.{Step};
 ghost use Rattle.rr_checked.specs.Answers.{replied};
 
 use crate::naming::{self, Named};
@@ -20,7 +20,8 @@ pub fn push<T: Copy + Default, B: WriteBody<Item = T>, H: Copy + Default, K: Bac
     id: &HandleId,
     item: T,
 ) -> Result<bool, Refusal>
-    ensures { Step K.action T.is_default H.is_default B.family core.old (Command.Push id.now item) (replied Reply.Flag result) core.new }
+    ensures { Step K.action T.is_default H.is_default B.family core.old (Command.Push id.now item)
+        (replied Reply.Flag result) core.new }
 {
     match core.kind(id) {
         Some(Kind::RequestMutUninit) => Ok(core.push_request(id, item)),
@@ -41,7 +42,8 @@ pub fn set<T: Copy + Default, B: WriteBody<Item = T>, H: Copy + Default, K: Back
     index: usize,
     item: T,
 ) -> Result<bool, Refusal>
-    ensures { Step K.action T.is_default H.is_default B.family core.old (Command.Set id.now index item) (replied Reply.Flag result) core.new }
+    ensures { Step K.action T.is_default H.is_default B.family core.old (Command.Set id.now index item)
+        (replied Reply.Flag result) core.new }
 {
     match naming::unsent(core, id) {
         Named::Request => Ok(core.write_request_element(id, index, item)),
@@ -61,7 +63,8 @@ pub fn set_user_header<T: Copy + Default, B: Body<Item = T>, H: Copy + Default, 
     id: &HandleId,
     header: H,
 ) -> Result<(), Refusal>
-    ensures { Step K.action T.is_default H.is_default B.family core.old (Command.SetUserHeader id.now header) (replied (λ done. Reply.Done) result) core.new }
+    ensures { Step K.action T.is_default H.is_default B.family core.old (Command.SetUserHeader id.now header)
+        (replied (λ done. Reply.Done) result) core.new }
 {
     match naming::unsent(core, id) {
         Named::Request => core.write_request_user_header(id, header),
@@ -72,16 +75,18 @@ pub fn set_user_header<T: Copy + Default, B: Body<Item = T>, H: Copy + Default, 
     Ok(())
 }
 
-/// Makes a message that is being written, and complete, one that can be sent. After iceoryx2's `assume_init`, which asks its caller.
+/// Makes a message with a complete payload ready to send. After iceoryx2's `assume_init`, whose condition is its
+/// caller's.
 ///
 /// # Errors
 ///
-/// `Unknown`, `WrongKind`, and `Incomplete` if less is written than was asked for.
+/// `Unknown`, `WrongKind`, and `Incomplete` if fewer elements were written than were loaned.
 pub fn assume_init<T: Copy + Default, B: WriteBody<Item = T>, H: Copy + Default, K: BackpressureFn>(
     core: &mut Core<B, H, B, H, K>,
     id: &HandleId,
 ) -> Result<(), Refusal>
-    ensures { Step K.action T.is_default H.is_default B.family core.old (Command.AssumeInit id.now) (replied (λ done. Reply.Done) result) core.new }
+    ensures { Step K.action T.is_default H.is_default B.family core.old (Command.AssumeInit id.now)
+        (replied (λ done. Reply.Done) result) core.new }
 {
     let is_complete = match core.kind(id) {
         Some(Kind::RequestMutUninit) => core.request_body(id).is_complete(),
@@ -105,7 +110,8 @@ pub fn set_hint<T: Copy + Default, B: Body<Item = T>, H: Copy + Default, K: Back
     core: &mut Core<B, H, B, H, K>,
     id: &HandleId,
 ) -> Result<(), Refusal>
-    ensures { Step K.action T.is_default H.is_default B.family core.old (Command.SetHint id.now) (replied (λ done. Reply.Done) result) core.new }
+    ensures { Step K.action T.is_default H.is_default B.family core.old (Command.SetHint id.now)
+        (replied (λ done. Reply.Done) result) core.new }
 {
     match core.kind(id) {
         Some(Kind::PendingResponse) => {

@@ -1,4 +1,4 @@
--- What is claimed of each number, and who owns which part of the ghost entry that stands for it.
+-- The claim on each number, and the owners of the parts of its ghost entry.
 use Rattle.std.specs.Prelude.{ℕ, ◌==◌, if◌then◌else◌, List, [], ◌∷◌, Option, Some, None}
 use Rattle.std.specs.Coded.{coded_option}
 use base.Fraction.{full_share}
@@ -20,7 +20,7 @@ abbrev pub shared_entry : Algebra
 shared_entry = both shares (agreed (coded itself))
 
 module _ {W : Type 0} where
-  -- what was put at a number last: what is claimed of it, or nothing
+  -- the last value put at a number: its claim, or nothing
   abbrev pub put_at : List (ℕ × Option W) → ℕ → Option W
   put_at [] n = None
   put_at (p ∷ ps) n = if n == p.0 then p.1 else put_at ps n
@@ -29,7 +29,7 @@ abbrev pub puts_coded : {W : Type 0} → Coded W → Coded (List (ℕ × Option 
 puts_coded c = coded_list (coded× coded_ℕ (coded_option c))
 
 module _ {W : Type 0} (code : W → Gv) where
-  -- what the roster owns of an entry: all of it where nothing is claimed
+  -- the roster's part of an entry: all of it, if nothing is claimed
   abbrev pub kept : Option W → Share × Gv
   kept None = (full_share, gnil)
   kept (Some w) = (quarter, code w)
@@ -38,7 +38,7 @@ module _ {W : Type 0} (code : W → Gv) where
   abbrev pub roster_row : List (ℕ × Option W) → ℕ → Maybe (Share × Gv)
   roster_row puts j = some (kept (put_at puts j))
 
-  -- what a roster owns
+  -- the ownership of a roster
   abbrev pub roster_owns : ℕ → List (ℕ × Option W) → Fml
   roster_owns id puts = fown (keyed shared_entry) id (roster_row puts)
 
@@ -50,6 +50,6 @@ claim_row n a j = if j == n then some a else none
 abbrev pub claim_part : {W : Type 0} (code : W → Gv) → ℕ → ℕ → W → Share → Fml
 claim_part code id n w q = fown (keyed shared_entry) id (claim_row n (q, code w))
 
--- what a claim owns: what the roster does not
+-- the ownership of a claim: the part that the roster doesn't have
 abbrev pub claim_owns : {W : Type 0} (code : W → Gv) → ℕ → ℕ → W → Fml
 claim_owns code id n w = claim_part code id n w three_quarters

@@ -6,36 +6,10 @@ ghost use Rattle.rr_claims.specs.Rosters.{claim_owns, claim_part};
 use crate::roster::Roster;
 use std::marker::{Model, PhantomData};
 
-/// A claim on a number, as something, of the state that one keeper knows. Contracts see which keeper, the number, and as what. It has no
-/// bytes, and lies beside what has the number.
+/// A claim on a number, with its content, of the state of one keeper. Contracts see the keeper's identity, the number
+/// and the content. It has no bytes, and is kept beside the value that has the number.
 ///
-/// A claim that is dropped is never given back: no other is granted on its number. Not in iceoryx2.
-///
-/// # Examples
-///
-/// Counts the places of a row that follow one which is claimed. That this one is in the row stands in its claim alone. `Kind` and
-/// `InRow` are those of the example of `Says` (`rr_test_core::tests::claims`):
-///
-/// ```
-/// ghost use Rattle.std.specs.Prelude.{◌≡◌, ◌-◌};
-///
-/// use rr_claims::{Claim, Keeper};
-///
-/// fn places_after(
-///     keeper: &mut Keeper<u64, Kind, InRow>,
-///     length: u64,
-///     claim: &Claim<Kind>,
-///     number: u64,
-/// ) -> u64
-///     requires claim { (claim.now.id ≡ keeper.old.id) × (claim.now.number ≡ number) }
-///     requires state { keeper.old.state ≡ length }
-///     ensures same { keeper.new ≡ keeper.old }
-///     ensures places { result ≡ length - number - 1 }
-/// {
-///     keeper.look(claim);
-///     length - number - 1
-/// }
-/// ```
+/// A claim that is dropped is never given back: no other claim is granted on its number. Not in iceoryx2.
 pub struct Claim<W> {
     pub(crate) marker: PhantomData<W>,
     pub ghost id: { ℕ },
@@ -52,7 +26,7 @@ impl<W> Model for Claim<W> {
 impl<W> Claim<W> {
     ghost use Rattle.rr_claims.specs.Cards.{IsPut};
 
-    /// Tells that two claims of one keeper are on two numbers. Changes nothing. Not in iceoryx2.
+    /// Proves that two claims of one keeper are on two numbers. Changes nothing. Not in iceoryx2.
     pub fn differ(&mut self, other: &mut Claim<W>)
         requires { self.old.id ≡ other.old.id }
         ensures { (self.new ≡ self.old) × (other.new ≡ other.old) × (self.old.number ≡ other.old.number → ⊥) }

@@ -1,5 +1,5 @@
-//! What threads may rely on of a value under a lock. Each claims a number of it, which no call of another takes away. Claims exist in
-//! proofs alone.
+//! Ghost claims on a locked value: while a thread holds a claim on a number, no other thread can invalidate it.
+//! Claims exist in proofs alone.
 #![tactic(auto)]
 
 mod claim;

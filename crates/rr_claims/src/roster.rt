@@ -1,4 +1,4 @@
-//! What is claimed of which number.
+//! The claim on each number.
 ghost use Rattle.std.specs.Prelude.{◌≡◌, ℕ, [], List, Option, Some, None};
 ghost use Rattle.rr_claims.specs.Rosters.{puts_coded, put_at, roster_owns};
 
@@ -6,7 +6,7 @@ use crate::claim::Claim;
 use crate::rules::Named;
 use std::marker::{Model, PhantomData};
 
-/// What is claimed of which number: what was put there last. It has no bytes.
+/// The claim on each number, the one that was put last. It has no bytes.
 pub(crate) struct Roster<W> {
     marker: PhantomData<W>,
     pub(crate) ghost id: { ℕ },
@@ -29,7 +29,7 @@ impl<W> Roster<W> {
         }
     }
 
-    /// Tells that the roster has what is claimed.
+    /// Proves that the roster has the claim.
     pub(crate) fn read(&mut self, claim: &Claim<W>)
         requires { claim.now.id ≡ self.old.id }
         ensures { (self.new ≡ self.old) × (put_at self.old.puts claim.now.number ≡ Some claim.now.what) }
@@ -40,7 +40,8 @@ impl<W> Roster<W> {
     /// Adds a claim on a number on which there is none.
     pub(crate) fn add<A: Named<W>>(&mut self, named: &A) -> Claim<W>
         requires { put_at self.old.puts (A.number named.now) ≡ None }
-        ensures { IsPut (A.number named.now) (Some A.what) self.old self.new × IsClaimOf self.old.id (A.number named.now) A.what result }
+        ensures { IsPut (A.number named.now) (Some A.what) self.old self.new
+            × IsClaimOf self.old.id (A.number named.now) A.what result }
     {
         let _ = named;
         Claim {

@@ -23,9 +23,9 @@ use std::alloc::{AllocError, Global};
 
 /// Creates a client under the next number.
 ///
-/// Returns `UnableToCreatePortTag` if no number remains, `ExceedsMaxSupportedClients` if as many clients are connected as may
-/// be, `UnableToCreateDataSegment` if memory was refused; nothing has changed then. The initial length is one that the body's
-/// family takes.
+/// Returns `UnableToCreatePortTag` if no number remains, `ExceedsMaxSupportedClients` if the hub has its maximum of
+/// connected clients, or `UnableToCreateDataSegment` if memory was refused; nothing has changed then. The initial
+/// length is one that the body's family takes.
 pub fn create_client<
     QB: WriteBody,
     QH: Default + Drop,
@@ -69,8 +69,8 @@ fn add_client<QB: WriteBody, QH: Default + Drop, PB: Body, PH: Default + Drop, K
     insert_client(store, alloc, settings)
 }
 
-/// Adds a client that can leave without memory, with the sender of one that left if nothing uses it any more. Returns
-/// `AllocError` if memory was refused; nothing has changed then.
+/// Adds a client that can leave without memory. It reuses the sender of a client that left, if nothing uses that any
+/// more. Returns `AllocError` if memory was refused; nothing has changed then.
 fn insert_client<
     QB: WriteBody,
     QH: Default + Drop,
@@ -85,13 +85,15 @@ fn insert_client<
     requires core { IsCore (opened store.old) }
     requires len { IsTrue (takes_len QB.family settings.initial_max_slice_len) }
     requires due { client_refusal (state_of (opened store.old)) ≡ None }
-    requires room { length (opened store.old).clients + 1 + length (opened store.old).left_clients ≤ (opened store.old).client_room }
+    requires room { length (opened store.old).clients + 1 + length (opened store.old).left_clients
+        ≤ (opened store.old).client_room }
     requires left { AreThere store.old.clients.senders store.old.clients.left }
     requires next { store.old.next + 1 < 2 ^ 64 }
     requires limits { hub_refusal store.old.limits ≡ None }
     ensures core { IsCore (opened store.new) }
     ensures number { IfOk result (λ number. number ≡ store.old.next) }
-    ensures senders { OnOk result (length (opened store.new).client_senders ≡ senders_after (opened store.old).client_senders (opened store.old).left_clients) }
+    ensures senders { OnOk result (length (opened store.new).client_senders
+        ≡ senders_after (opened store.old).client_senders (opened store.old).left_clients) }
     ensures ok { OnOk result (state_of (opened store.new) ≡ with_client (state_of (opened store.old)) settings) }
     ensures err { OnErr result (opened store.new ≡ opened store.old) }
 {
@@ -106,7 +108,7 @@ fn insert_client<
     }
 }
 
-/// Returns the first reason against one more client.
+/// Returns the first reason that refuses one more client.
 fn client_refusal<QB: Body, QH: Default + Drop, PB: Body, PH: Default + Drop, K: BackpressureFn>(
     store: &Store<QB, QH, PB, PH, K>,
 ) -> Option<ClientCreateError>
@@ -121,8 +123,8 @@ fn client_refusal<QB: Body, QH: Default + Drop, PB: Body, PH: Default + Drop, K:
     None
 }
 
-/// Adds a client with so many slots under the next number, which it returns. Returns `AllocError` if memory was refused;
-/// nothing has changed then.
+/// Adds a client with `slots` slots under the next number, which it returns. Returns `AllocError` if memory was
+/// refused; nothing has changed then.
 fn append_client<QB: Body, QH: Default + Drop, PB: Body, PH: Default + Drop, K: BackpressureFn>(
     store: &mut Store<QB, QH, PB, PH, K>,
     alloc: Global,
@@ -135,7 +137,8 @@ fn append_client<QB: Body, QH: Default + Drop, PB: Body, PH: Default + Drop, K: 
     requires unsent { client.messages.queues ≡ replicate store.old.limits.max_servers (replicate 1 []) }
     requires alike { AreAlike store.old.limits.max_servers 1 store.old.clients.senders }
     ensures number { IfOk result (λ number. number ≡ store.old.next) }
-    ensures ok { OnOk result (opened store.new ≡ with_new_client (opened store.old) settings slots receiver client.messages client.marks.items client.row_len) }
+    ensures ok { OnOk result (opened store.new ≡ with_new_client (opened store.old) settings slots receiver
+        client.messages client.marks.items client.row_len) }
     ensures err { OnErr result (opened store.new ≡ opened store.old) }
 {
     let number = store.next;
@@ -159,9 +162,9 @@ fn append_client<QB: Body, QH: Default + Drop, PB: Body, PH: Default + Drop, K: 
     Ok(number)
 }
 
-/// Adds a client as `append_client` does, which sends from the sender of the client that left as the one at an index: that
-/// sender becomes a new one, and that client is no longer noted. Returns `AllocError` if memory was refused; nothing has
-/// changed then.
+/// Adds a client as `append_client` does, but reuses the sender of the client at an index of those that left: that
+/// sender becomes a new one, and that client is removed from the list. Returns `AllocError` if memory was refused;
+/// nothing has changed then.
 fn append_client_again<
     QB: Body,
     QH: Default + Drop,
@@ -179,10 +182,13 @@ fn append_client_again<
 ) -> Result<u64, AllocError>
     requires next { store.old.next + 1 < 2 ^ 64 }
     requires again { AreSentAgain store.old.clients.senders client.messages.queues }
-    requires left { CanTakeOver (opened store.old).client_senders (opened store.old).left_clients store.old.table.rows index }
+    requires left { CanTakeOver (opened store.old).client_senders (opened store.old).left_clients store.old.table.rows
+        index }
     ensures number { IfOk result (λ number. number ≡ store.old.next) }
-    ensures ok { OnOk result (opened store.new ≡ with_client_again (opened store.old) settings slots receiver client.messages client.marks.items index store.new.table) }
-    ensures table { OnOk result (IsRenewed (sender_of (left_at index (opened store.old).left_clients).sender (opened store.old).client_senders).row client.row_len store.old.table store.new.table) }
+    ensures ok { OnOk result (opened store.new ≡ with_client_again (opened store.old) settings slots receiver
+        client.messages client.marks.items index store.new.table) }
+    ensures table { OnOk result (IsRenewed (sender_of (left_at index (opened store.old).left_clients).sender
+        (opened store.old).client_senders).row client.row_len store.old.table store.new.table) }
     ensures err { OnErr result (opened store.new ≡ opened store.old) }
 {
     let number = store.next;
@@ -211,8 +217,8 @@ const NO_REQUEST: RequestDetails = RequestDetails {
     request_id: 0,
 };
 
-/// The places of a row: for each slot one for its own handle, and one for a handle of each server. `Err` where no memory
-/// holds so many.
+/// Returns the number of places in a row: for each slot one for its own handle, and one for a handle of each server.
+/// `Err` if no memory holds that number.
 fn row_len(slots: usize, servers: usize) -> Result<usize, AllocError>
     ensures len { IfOk result (λ len. len ≡ (servers + 1) * slots) }
     ensures fits { IfOk result (λ len. len < 2 ^ 64) }
@@ -226,7 +232,7 @@ fn row_len(slots: usize, servers: usize) -> Result<usize, AllocError>
     }
 }
 
-/// What a client sends from: its sender, the marks of its slots, and the length of its row in the table.
+/// The storage of a client's messages: its sender, the marks of its slots, and the length of its row in the table.
 #[derive(Drop)]
 pub struct ClientStore<B: Body, H: Default + Drop> {
     pub messages: Sender<B, RequestDetails, H>,
@@ -234,8 +240,8 @@ pub struct ClientStore<B: Body, H: Default + Drop> {
     pub row_len: usize,
 }
 
-/// Makes the store of a client: `slots` slots, each with room for `room` elements, a length that the body's family takes.
-/// Returns `AllocError` if memory was refused.
+/// Makes the store of a client: `slots` slots, each with room for `room` elements, a length that the body's family
+/// takes. Returns `AllocError` if memory was refused.
 fn client_store<B: WriteBody, H: Default + Drop>(
     alloc: Global,
     limits: &Limits,
@@ -243,7 +249,8 @@ fn client_store<B: WriteBody, H: Default + Drop>(
     room: usize,
 ) -> Result<ClientStore<B, H>, AllocError>
     requires { IsTrue (takes_len B.family room) }
-    ensures messages { IfOk result (λ store. IsNew slots room limits.now.max_servers 1 limits.now.max_active_requests_per_client no_request store.messages) }
+    ensures messages { IfOk result (λ store. IsNew slots room limits.now.max_servers 1
+        limits.now.max_active_requests_per_client no_request store.messages) }
     ensures marks { IfOk result (λ store. store.marks.items ≡ replicate (slots * limits.now.max_servers) no_server) }
     ensures row { IfOk result (λ store. store.row_len ≡ (limits.now.max_servers + 1) * slots) }
     ensures fits { IfOk result (λ store. store.row_len < 2 ^ 64) }
@@ -271,7 +278,19 @@ fn client_port<K: Drop>(
     sender: usize,
     receiver: usize,
 ) -> Port<K>
-    ensures { connected_of result ≡ record { port = record { id = id; strategy = settings.strategy; handler = settings.handler; allocation_strategy = settings.allocation_strategy; initial_max_slice_len = settings.initial_max_slice_len; pool_size = pool_size; has_value = true }; sender = sender; receiver = receiver } }
+    ensures { connected_of result ≡ record {
+      port = record {
+        id = id;
+        strategy = settings.strategy;
+        handler = settings.handler;
+        allocation_strategy = settings.allocation_strategy;
+        initial_max_slice_len = settings.initial_max_slice_len;
+        pool_size = pool_size;
+        has_value = true;
+      };
+      sender = sender;
+      receiver = receiver;
+    } }
 {
     Port {
         id,

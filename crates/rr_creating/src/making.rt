@@ -19,14 +19,15 @@ use std::alloc::Global;
 /// # Errors
 ///
 /// - `ZeroLimit` if a limit is below its least value.
-/// - `LimitsTooLarge` if a worst-case size is more than a `usize` counts.
+/// - `LimitsTooLarge` if a worst-case size overflows a `usize`.
 pub fn new_store<QB: Body, QH: Default + Drop, PB: Body, PH: Default + Drop, K: BackpressureFn>(
     alloc: Global,
     limits: Limits,
     node_id: UniqueNodeId,
 ) -> Result<Store<QB, QH, PB, PH, K>, HubCreateError>
     ensures core { IfOk result (λ store. IsCore (opened store)) }
-    ensures view { CreatesHub limits node_id.0 (result_map_both (λ store. state_of (opened store)) (λ error. error) result) }
+    ensures view { CreatesHub limits node_id.0 (result_map_both (λ store. state_of (opened store)) (λ error. error)
+        result) }
 {
     match limits.refusal() {
         Some(refusal) => Err(refusal),

@@ -5,7 +5,7 @@ ghost use Rattle.rr_protocol.specs.Limits.{hub_refusal, worst_case_requests, is_
 
 use rr_protocol::Limits;
 
-/// The most requests of a client that can live at one time, where the limits make a hub.
+/// Returns the most requests of a client that can live at one time. The limits must make a hub.
 pub fn worst_case_requests(limits: &Limits) -> usize
     requires { hub_refusal limits.now ≡ None }
     ensures { result ≡ worst_case_requests limits.now }
@@ -16,7 +16,8 @@ pub fn worst_case_requests(limits: &Limits) -> usize
     }
 }
 
-/// The most responses of a server that can live at one time, where the limits make a hub and a `usize` counts them.
+/// Returns the most responses of a server that can live at one time. The limits must make a hub, and the number must
+/// fit into a `usize`.
 pub fn worst_case_responses(limits: &Limits, loans: usize) -> usize
     requires hub { hub_refusal limits.now ≡ None }
     requires counts { is_too_large (worst_case_responses limits.now loans) ≡ false }

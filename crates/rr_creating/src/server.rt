@@ -21,7 +21,7 @@ use rr_slots::{Body, WriteBody};
 use rr_store::{NUMBERS, Port, ResponseDetails, ServerPort, Store};
 use std::alloc::{AllocError, Global};
 
-/// Stands for the details of no response.
+/// A placeholder for the details of a response.
 const NO_RESPONSE: ResponseDetails = ResponseDetails {
     number: 0,
     server: 0,
@@ -35,9 +35,9 @@ const NO_RESPONSE: ResponseDetails = ResponseDetails {
 
 /// Creates a server under the next number.
 ///
-/// Returns `UnableToCreatePortTag` if no number remains, `ExceedsMaxSupportedServers` if as many servers are connected as may
-/// be, `UnableToCreateDataSegment` if the worst-case number of responses is more than a `usize` counts, or memory was refused;
-/// nothing has changed then. The initial length is one that the body's family takes.
+/// Returns `UnableToCreatePortTag` if no number remains, `ExceedsMaxSupportedServers` if the hub has its maximum of
+/// connected servers, or `UnableToCreateDataSegment` if the worst-case number of responses overflows a `usize` or
+/// memory was refused; nothing has changed then. The initial length is one that the body's family takes.
 pub fn create_server<
     QB: Body,
     QH: Default + Drop,
@@ -81,8 +81,8 @@ fn add_server<QB: Body, QH: Default + Drop, PB: WriteBody, PH: Default + Drop, K
     insert_server(store, alloc, settings)
 }
 
-/// Adds a server that can leave without memory, with the sender of one that left if nothing uses it any more. Returns
-/// `AllocError` if memory was refused; nothing has changed then.
+/// Adds a server that can leave without memory. It reuses the sender of a server that left, if nothing uses that any
+/// more. Returns `AllocError` if memory was refused; nothing has changed then.
 fn insert_server<
     QB: Body,
     QH: Default + Drop,
@@ -97,11 +97,13 @@ fn insert_server<
     requires core { IsCore (opened store.old) }
     requires len { IsTrue (takes_len PB.family settings.initial_max_slice_len) }
     requires due { server_refusal (state_of (opened store.old)) settings ≡ None }
-    requires room { length (opened store.old).servers + 1 + length (opened store.old).left_servers ≤ (opened store.old).server_room }
+    requires room { length (opened store.old).servers + 1 + length (opened store.old).left_servers
+        ≤ (opened store.old).server_room }
     requires left { AreThere store.old.servers.senders store.old.servers.left }
     ensures core { IsCore (opened store.new) }
     ensures number { IfOk result (λ number. number ≡ store.old.next) }
-    ensures senders { OnOk result (length (opened store.new).server_senders ≡ senders_after (opened store.old).server_senders (opened store.old).left_servers) }
+    ensures senders { OnOk result (length (opened store.new).server_senders
+        ≡ senders_after (opened store.old).server_senders (opened store.old).left_servers) }
     ensures ok { OnOk result (state_of (opened store.new) ≡ with_server (state_of (opened store.old)) settings) }
     ensures err { OnErr result (opened store.new ≡ opened store.old) }
 {
@@ -119,8 +121,8 @@ fn insert_server<
     }
 }
 
-/// Makes what a server sends from: `slots` slots, each with room for `room` elements, a length that the body's family takes.
-/// Returns `AllocError` if memory was refused.
+/// Makes the sender of a server: `slots` slots, each with room for `room` elements, a length that the body's family
+/// takes. Returns `AllocError` if memory was refused.
 fn server_messages<B: WriteBody, H: Default + Drop>(
     alloc: Global,
     limits: &Limits,
@@ -129,7 +131,8 @@ fn server_messages<B: WriteBody, H: Default + Drop>(
 ) -> Result<Sender<B, ResponseDetails, H>, AllocError>
     requires len { IsTrue (takes_len B.family room) }
     requires hub { hub_refusal limits.now ≡ None }
-    ensures { IfOk result (λ messages. IsNew slots room limits.now.max_clients (worst_case_requests limits.now) limits.now.max_response_buffer_size no_response messages) }
+    ensures { IfOk result (λ messages. IsNew slots room limits.now.max_clients (worst_case_requests limits.now)
+        limits.now.max_response_buffer_size no_response messages) }
 {
     let size = SenderSize {
         slots,
@@ -141,7 +144,7 @@ fn server_messages<B: WriteBody, H: Default + Drop>(
     Sender::new(alloc, size, NO_RESPONSE)
 }
 
-/// Returns the first reason against one more server with these settings.
+/// Returns the first reason that refuses one more server with these settings.
 fn server_refusal<QB: Body, QH: Default + Drop, PB: Body, PH: Default + Drop, K: BackpressureFn>(
     store: &Store<QB, QH, PB, PH, K>,
     settings: &ServerSettings<K>,
@@ -161,8 +164,8 @@ fn server_refusal<QB: Body, QH: Default + Drop, PB: Body, PH: Default + Drop, K:
     }
 }
 
-/// Adds a server with so many slots, and so many responses on loan for each request, under the next number, which it
-/// returns. Returns `AllocError` if memory was refused; nothing has changed then.
+/// Adds a server with `slots` slots, and at most `loans` responses on loan for each request, under the next number,
+/// which it returns. Returns `AllocError` if memory was refused; nothing has changed then.
 fn append_server<QB: Body, QH: Default + Drop, PB: Body, PH: Default + Drop, K: BackpressureFn>(
     store: &mut Store<QB, QH, PB, PH, K>,
     alloc: Global,
@@ -174,12 +177,15 @@ fn append_server<QB: Body, QH: Default + Drop, PB: Body, PH: Default + Drop, K: 
 ) -> Result<u64, AllocError>
     requires next { store.old.next + 1 < 2 ^ 64 }
     requires hub { hub_refusal store.old.limits ≡ None }
-    requires unsent { messages.queues ≡ replicate store.old.limits.max_clients (replicate (worst_case_requests store.old.limits) []) }
-    requires alike { AreAlike store.old.limits.max_clients (worst_case_requests store.old.limits) store.old.servers.senders }
+    requires unsent { messages.queues ≡ replicate store.old.limits.max_clients
+        (replicate (worst_case_requests store.old.limits) []) }
+    requires alike { AreAlike store.old.limits.max_clients (worst_case_requests store.old.limits)
+        store.old.servers.senders }
     requires clients { 0 < store.old.limits.max_clients }
     requires loans { max_loaned_responses store.old.limits loans < 2 ^ 64 }
     ensures number { IfOk result (λ number. number ≡ store.old.next) }
-    ensures ok { OnOk result (opened store.new ≡ with_new_server (opened store.old) settings loans slots receiver messages) }
+    ensures ok { OnOk result (opened store.new ≡ with_new_server (opened store.old) settings loans slots receiver
+        messages) }
     ensures err { OnErr result (opened store.new ≡ opened store.old) }
 {
     let number = store.next;
@@ -202,9 +208,9 @@ fn append_server<QB: Body, QH: Default + Drop, PB: Body, PH: Default + Drop, K: 
     Ok(number)
 }
 
-/// Adds a server as `append_server` does, which sends from the sender of the server that left as the one at an index: that
-/// sender becomes a new one, and that server is no longer noted. Returns `AllocError` if memory was refused; nothing has
-/// changed then.
+/// Adds a server as `append_server` does, but reuses the sender of the server at an index of those that left: that
+/// sender becomes a new one, and that server is removed from the list. Returns `AllocError` if memory was refused;
+/// nothing has changed then.
 fn append_server_again<
     QB: Body,
     QH: Default + Drop,
@@ -225,10 +231,13 @@ fn append_server_again<
     requires clients { 0 < store.old.limits.max_clients }
     requires loans { max_loaned_responses store.old.limits loans < 2 ^ 64 }
     requires again { AreSentAgain store.old.servers.senders messages.queues }
-    requires left { CanTakeOver (opened store.old).server_senders (opened store.old).left_servers store.old.table.rows index }
+    requires left { CanTakeOver (opened store.old).server_senders (opened store.old).left_servers store.old.table.rows
+        index }
     ensures number { IfOk result (λ number. number ≡ store.old.next) }
-    ensures ok { OnOk result (opened store.new ≡ with_server_again (opened store.old) settings loans slots receiver messages index store.new.table) }
-    ensures table { OnOk result (IsRenewed (sender_of (left_at index (opened store.old).left_servers).sender (opened store.old).server_senders).row slots store.old.table store.new.table) }
+    ensures ok { OnOk result (opened store.new ≡ with_server_again (opened store.old) settings loans slots receiver
+        messages index store.new.table) }
+    ensures table { OnOk result (IsRenewed (sender_of (left_at index (opened store.old).left_servers).sender
+        (opened store.old).server_senders).row slots store.old.table store.new.table) }
     ensures err { OnErr result (opened store.new ≡ opened store.old) }
 {
     let number = store.next;
@@ -256,7 +265,19 @@ fn server_port<K: Drop>(
     sender: usize,
     receiver: usize,
 ) -> Port<K>
-    ensures { connected_of result ≡ record { port = record { id = id; strategy = settings.strategy; handler = settings.handler; allocation_strategy = settings.allocation_strategy; initial_max_slice_len = settings.initial_max_slice_len; pool_size = pool_size; has_value = true }; sender = sender; receiver = receiver } }
+    ensures { connected_of result ≡ record {
+      port = record {
+        id = id;
+        strategy = settings.strategy;
+        handler = settings.handler;
+        allocation_strategy = settings.allocation_strategy;
+        initial_max_slice_len = settings.initial_max_slice_len;
+        pool_size = pool_size;
+        has_value = true;
+      };
+      sender = sender;
+      receiver = receiver;
+    } }
 {
     Port {
         id,
@@ -271,7 +292,7 @@ fn server_port<K: Drop>(
     }
 }
 
-/// A server, with so many responses that it may have on loan for each request.
+/// Makes a server that may have `loans` responses on loan for each request.
 fn server_of<K: Drop>(
     limits: &Limits,
     id: u64,
@@ -283,7 +304,23 @@ fn server_of<K: Drop>(
 ) -> ServerPort<K>
     requires clients { 0 < limits.now.max_clients }
     requires loans { max_loaned_responses limits.now loans < 2 ^ 64 }
-    ensures { server_part result ≡ record { connected = record { port = record { id = id; strategy = settings.strategy; handler = settings.handler; allocation_strategy = settings.allocation_strategy; initial_max_slice_len = settings.initial_max_slice_len; pool_size = pool_size; has_value = true }; sender = sender; receiver = receiver }; max_loaned_responses_per_request = loans; max_loaned_responses = max_loaned_responses limits.now loans } }
+    ensures { server_part result ≡ record {
+      connected = record {
+        port = record {
+          id = id;
+          strategy = settings.strategy;
+          handler = settings.handler;
+          allocation_strategy = settings.allocation_strategy;
+          initial_max_slice_len = settings.initial_max_slice_len;
+          pool_size = pool_size;
+          has_value = true;
+        };
+        sender = sender;
+        receiver = receiver;
+      };
+      max_loaned_responses_per_request = loans;
+      max_loaned_responses = max_loaned_responses limits.now loans;
+    } }
 {
     let max_loaned_responses = loans * limits.max_active_requests_per_client * limits.max_clients;
     ServerPort {

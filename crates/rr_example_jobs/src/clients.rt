@@ -1,4 +1,4 @@
-//! A service of four clients, each of a speed of its own: the server doubles what it is asked.
+//! A service of four clients, each with its own speed: the server doubles the number of each request.
 ghost use Rattle.std.specs.Prelude.{◌≡◌};
 
 use rr_ports::{Limits, UniqueNodeId};
@@ -27,12 +27,12 @@ type Hub<N> = SharedPorts<N, u64, (), u64, ()>;
 
 type Caller<N> = Seat<N, u64, (), u64, ()>;
 
-/// What clients got.
+/// The answers that clients received.
 #[derive(Clone, Copy)]
 pub struct Served {
     /// How many answers.
     pub answers: u64,
-    /// What they come to.
+    /// Their sum.
     pub sum: u64,
 }
 
@@ -96,7 +96,7 @@ fn serve<N: Naming, R: Wait>(
     unreachable!()
 }
 
-/// Asks for numbers, and waits for as long as its place says in between. Returns the sum of the answers.
+/// Asks for numbers, with a pause in between that depends on its place. Returns the sum of the answers.
 fn ask_all<N: Naming, R: Wait + Clock>(rt: &R, hub: &Hub<N>, place: u64) -> anyhow::Result<u64> {
     let mut seat = hub.seat();
     let client = hub.create_client(rt, &mut seat, hub.client_builder(rt))?;

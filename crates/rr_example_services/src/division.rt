@@ -6,22 +6,22 @@
 //! 144 by 12: 12, remainder 0
 //! ```
 //!
-//! `rr_callers::each::call_each` carries each question to the server and its answer back. Its contract says that the answers are what
-//! `divide` returned for the questions, in their order; or an error says which call was refused.
+//! `rr_callers::each::call_each` carries each question to the server and its answer back. Its contract says that the
+//! answers are what `divide` returned for the questions, in their order; or an error says which call was refused.
 #![tactic(auto, using(rr_ports::proofs::Frames::callers), unfolding(rr_ports::specs::Facts::Keeps, rr_ports::specs::Facts::IsFree))]
 
 use rr_callers::connected::Connected;
 use rr_callers::each::call_each;
 use thiserror::Error;
 
-/// What a client asks.
+/// A client's question.
 #[derive(Clone, Copy, Debug)]
 struct Division {
     dividend: u64,
     divisor: u64,
 }
 
-/// What a server answers.
+/// A server's answer.
 #[derive(Clone, Copy, Debug)]
 struct Quotient {
     quotient: u64,

@@ -1,5 +1,6 @@
-//! Four services over the ports of one hub each, a file each: a remote procedure call, a parameter service, a streaming query that the
-//! client ends, and a sensor that streams slices. What needs a contract stands in `rr_callers`.
+//! Four services over the ports of one hub each, a file each: a remote procedure call, a parameter service, a
+//! streaming query that the client ends, and a sensor that streams slices. The parts that need a contract are in
+//! `rr_callers`.
 #![tactic(auto)]
 
 mod division;

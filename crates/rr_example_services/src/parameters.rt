@@ -7,15 +7,15 @@
 //! List: [10, 21, 30]
 //! ```
 //!
-//! `rr_callers::parameters::ask_in_turn` sends each question, lets the server answer it, and receives the answer. The ports must belong to
-//! this hub; its contract says what the answers are.
+//! `rr_callers::parameters::ask_in_turn` sends each question, makes the server answer it, and receives the answer.
+//! The ports must belong to this hub; its contract gives the answers.
 #![tactic(auto, using(rr_ports::proofs::Frames::callers), unfolding(rr_ports::specs::Facts::Keeps, rr_ports::specs::Facts::IsFree))]
 
 use rr_callers::connected::Connected;
 use rr_callers::parameters::{Asked, Service, ask_in_turn};
 use rr_ports::UniqueNodeId;
 
-/// What is asked, by the first client and the second in turn.
+/// The questions, asked by the first and the second client alternately.
 const QUESTIONS: [Asked; 4] = [Asked::Get(1), Asked::Set(1, 21), Asked::Get(7), Asked::List];
 
 /// Asks the questions, and prints the answers.

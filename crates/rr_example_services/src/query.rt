@@ -1,12 +1,14 @@
-//! A streaming query: a client takes as many responses as it wants, and sets its hint; the server sees the hint, and stops.
+//! A streaming query: a client takes as many responses as it wants, and sets its hint; the server sees the hint, and
+//! stops.
 //!
 //! ```text
 //! wanted 1: 1 came of 2 that were sent
 //! wanted 5: 5 came of 6 that were sent
 //! ```
 //!
-//! `rr_callers::streaming::stream` sends the request, has the server send two responses and the client receive them, in turn, and
-//! releases both handles. Both ports must belong to this hub; its contract says that no more responses come than are wanted.
+//! `rr_callers::streaming::stream` sends the request, makes the server send two responses and the client receive
+//! them, in turn, and releases both handles. Both ports must belong to this hub; its contract says that no more
+//! responses come than are wanted.
 #![tactic(auto, using(rr_ports::proofs::Frames::callers), unfolding(rr_ports::specs::Facts::Keeps, rr_ports::specs::Facts::IsFree))]
 
 use rr_callers::connected::Connected;

@@ -1,4 +1,5 @@
-//! A sensor: a client names channels, and a server streams frames, slices with a sample of each channel, which it writes in place.
+//! A sensor: a client names channels, and a server streams frames, slices with a sample of each channel, which it
+//! writes in place.
 //!
 //! ```text
 //! frame 0: from 100 to 700
@@ -6,8 +7,8 @@
 //! frame 2: from 102 to 702
 //! ```
 //!
-//! `rr_callers::sensing::sense` sends the request, has the server send each frame and the client read it where it lies, and releases all
-//! handles. The ports must belong to this hub; its contract says what the extremes are.
+//! `rr_callers::sensing::sense` sends the request, makes the server send each frame and the client read it in place,
+//! and releases all handles. The ports must belong to this hub; its contract gives the extremes.
 #![tactic(auto, using(rr_ports::proofs::Frames::callers), unfolding(rr_ports::specs::Facts::Keeps, rr_ports::specs::Facts::IsFree))]
 
 use rr_callers::connected::Connected;

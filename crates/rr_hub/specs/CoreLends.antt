@@ -1,4 +1,5 @@
--- What a core ends as, once a `&mut` into one of its messages has ended. The arguments before the core name the members of the bounds.
+-- The final value of a core, once a `&mut` into one of its messages has ended. The arguments before the core name the
+-- members of the bounds.
 use Rattle.std.specs.Prelude.{ℕ, List, length, Option}
 use Rattle.std.specs.List.{refill}
 use Rattle.std.specs.Borrow.{Fml, RattleType, MutBor, Array, Lends}
@@ -20,9 +21,11 @@ module _ (QB QH PB PH K Q P : RattleType) (request : Ghosts QB.Denot Q.Denot) (d
     (response : Ghosts PB.Denot P.Denot) (default_response : Defaulting PH.Denot) (pressure : Pressure K.Denot)
     (core : MutBor (State Q.Denot QH.Denot P.Denot PH.Denot K.Denot)) (n : ℕ) where
   -- a change of the handle under a number by the last value written through a `&mut`
-  abbrev lends_change : (T : RattleType) → MutBor T.Denot → (T.Denot → Handle Q.Denot QH.Denot P.Denot PH.Denot → Handle Q.Denot QH.Denot P.Denot PH.Denot) → Fml
+  abbrev lends_change : (T : RattleType) → MutBor T.Denot
+      → (T.Denot → Handle Q.Denot QH.Denot P.Denot PH.Denot → Handle Q.Denot QH.Denot P.Denot PH.Denot) → Fml
   lends_change T r change =
-      Lends (the_row QB QH PB PH K Q P request default_request response default_response pressure) T core r (λ value. with_changed core.now n (change value))
+      Lends (the_row QB QH PB PH K Q P request default_request response default_response pressure) T core r
+      (λ value. with_changed core.now n (change value))
 
   -- the element of a request at an index is the last one written through r
   abbrev pub lends_request_element : ℕ → MutBor Q.Denot → Fml
@@ -49,17 +52,21 @@ module _ (QB QH PB PH K Q P : RattleType) (request : Ghosts QB.Denot Q.Denot) (d
   lends_response_slice r = lends_change (Array P 0) r (λ items. with_response_content (refilled items))
 
 module _ (T QH PB PH K P : RattleType) (default_request : Defaulting QH.Denot) (response : Ghosts PB.Denot P.Denot)
-    (default_response : Defaulting PH.Denot) (pressure : Pressure K.Denot) (core : MutBor (State T.Denot QH.Denot P.Denot PH.Denot K.Denot)) (n : ℕ) where
-  -- what stands in a request of one element is what was last written through r
+    (default_response : Defaulting PH.Denot) (pressure : Pressure K.Denot)
+    (core : MutBor (State T.Denot QH.Denot P.Denot PH.Denot K.Denot)) (n : ℕ) where
+  -- the content of a request of one element is the value last written through r
   abbrev pub lends_request_option : Ghosts (Option T.Denot) T.Denot → MutBor (Option T.Denot) → Fml
   lends_request_option request r =
-      lends_change (option_row T) QH PB PH K T P request default_request response default_response pressure core n (option_row T) r
+      lends_change (option_row T) QH PB PH K T P request default_request response default_response pressure core n
+      (option_row T) r
       (λ item. with_request_content (with_elements (option_elements item)))
 
 module _ (QB QH T PH K Q : RattleType) (request : Ghosts QB.Denot Q.Denot) (default_request : Defaulting QH.Denot)
-    (default_response : Defaulting PH.Denot) (pressure : Pressure K.Denot) (core : MutBor (State Q.Denot QH.Denot T.Denot PH.Denot K.Denot)) (n : ℕ) where
-  -- what stands in a response of one element is what was last written through r
+    (default_response : Defaulting PH.Denot) (pressure : Pressure K.Denot)
+    (core : MutBor (State Q.Denot QH.Denot T.Denot PH.Denot K.Denot)) (n : ℕ) where
+  -- the content of a response of one element is the value last written through r
   abbrev pub lends_response_option : Ghosts (Option T.Denot) T.Denot → MutBor (Option T.Denot) → Fml
   lends_response_option response r =
-      lends_change QB QH (option_row T) PH K Q T request default_request response default_response pressure core n (option_row T) r
+      lends_change QB QH (option_row T) PH K Q T request default_request response default_response pressure core n
+      (option_row T) r
       (λ item. with_response_content (with_elements (option_elements item)))

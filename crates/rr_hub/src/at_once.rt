@@ -1,4 +1,4 @@
-//! Messages of one element that one call loans, writes and sends.
+//! Messages of one element that a single call loans, writes and sends.
 mod request;
 mod response;
 

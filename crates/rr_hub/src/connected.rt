@@ -9,7 +9,7 @@ use rr_protocol::BackpressureFn;
 use rr_slots::Body;
 use rr_store::{ServerPort, Store};
 
-/// Returns whether a connected server may still answer the request in a slot. Looks once at each connected server.
+/// Returns whether a connected server may still answer the request in a slot. Reads each connected server once.
 #[inline(always)]
 pub fn is_answerable<QB: Body, QH: Default + Drop, PB: Body, PH: Default + Drop, K: BackpressureFn>(
     store: &Store<QB, QH, PB, PH, K>,
@@ -17,8 +17,11 @@ pub fn is_answerable<QB: Body, QH: Default + Drop, PB: Body, PH: Default + Drop,
     slot: usize,
 ) -> bool
     requires sender { sender < length (opened store.now).client_senders }
-    requires start { slot * store.now.limits.max_servers ≤ length (sender_of sender (opened store.now).client_senders).may_answer }
-    requires marks { (i : ℕ) (s : ServerPart K) → slice_get (opened store.now).servers i ≡ Some s → slot * store.now.limits.max_servers + s.receiver < length (sender_of sender (opened store.now).client_senders).may_answer }
+    requires start { slot * store.now.limits.max_servers
+        ≤ length (sender_of sender (opened store.now).client_senders).may_answer }
+    requires marks { (i : ℕ) (s : ServerPart K) → slice_get (opened store.now).servers i ≡ Some s
+        → slot * store.now.limits.max_servers + s.receiver
+        < length (sender_of sender (opened store.now).client_senders).may_answer }
     ensures { result ≡ nat_lt 0 (length (waiting_at (opened store.now) sender slot)) }
 {
     is_any_marked(
@@ -28,11 +31,13 @@ pub fn is_answerable<QB: Body, QH: Default + Drop, PB: Body, PH: Default + Drop,
     )
 }
 
-/// Returns whether one of the servers is marked, where the marks by receiver begin at an index.
+/// Returns whether one of the servers is marked, in the marks by receiver that begin at `start`.
 #[inline(always)]
 fn is_any_marked<K: Drop>(servers: &[ServerPort<K>], marks: &[u64], start: usize) -> bool
-    requires { (i : ℕ) (s : ServerPort K) → slice_get servers.now i ≡ Some s → start + s.port.receiver < length marks.now }
-    ensures { result ≡ list_any (λ s. slice_index_or marks.now (start + s.port.receiver) no_server == s.port.id) servers.now }
+    requires { (i : ℕ) (s : ServerPort K) → slice_get servers.now i ≡ Some s
+        → start + s.port.receiver < length marks.now }
+    ensures { result ≡ list_any (λ s. slice_index_or marks.now (start + s.port.receiver) no_server == s.port.id)
+        servers.now }
 {
     for server in servers {
         if marks[start + server.port.receiver] == server.port.id {

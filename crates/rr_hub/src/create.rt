@@ -19,14 +19,14 @@ impl<QB: WriteBody, QH: Default + Drop, PB: Body, PH: Default + Drop, K: Backpre
     PH,
     K,
 > {
-    /// Creates a client under the next number, which it returns. The initial length is one that the body's family takes. After
-    /// iceoryx2's `PortFactoryClient::create`.
+    /// Creates a client under the next number, which it returns. The initial length is one that the body's family
+    /// takes. After iceoryx2's `PortFactoryClient::create`.
     ///
     /// # Errors
     ///
     /// An error leaves the hub as it was.
     /// - `UnableToCreatePortTag` if no number remains.
-    /// - `ExceedsMaxSupportedClients` if as many clients are connected as may be.
+    /// - `ExceedsMaxSupportedClients` if the hub has its maximum of connected clients.
     /// - `UnableToCreateDataSegment` if memory was refused.
     pub fn create_client(&mut self, settings: ClientSettings<K>) -> Result<u64, ClientCreateError>
         requires { IsTrue (takes_len QB.family settings.initial_max_slice_len) }
@@ -45,15 +45,16 @@ impl<QB: Body, QH: Default + Drop, PB: WriteBody, PH: Default + Drop, K: Backpre
     PH,
     K,
 > {
-    /// Creates a server under the next number, which it returns. The initial length is one that the body's family takes. After
-    /// iceoryx2's `PortFactoryServer::create`.
+    /// Creates a server under the next number, which it returns. The initial length is one that the body's family
+    /// takes. After iceoryx2's `PortFactoryServer::create`.
     ///
     /// # Errors
     ///
     /// An error leaves the hub as it was.
     /// - `UnableToCreatePortTag` if no number remains.
-    /// - `ExceedsMaxSupportedServers` if as many servers are connected as may be.
-    /// - `UnableToCreateDataSegment` if the worst-case number of responses is more than a `usize` counts, or memory was refused.
+    /// - `ExceedsMaxSupportedServers` if the hub has its maximum of connected servers.
+    /// - `UnableToCreateDataSegment` if the worst-case number of responses overflows a `usize`, or memory was
+    ///   refused.
     pub fn create_server(&mut self, settings: ServerSettings<K>) -> Result<u64, ServerCreateError>
         requires { IsTrue (takes_len PB.family settings.initial_max_slice_len) }
         ensures creates { CreatesServer self.old settings result self.new }

@@ -1,4 +1,4 @@
-//! What a core tells of what travels with messages, and of where they came from. No query changes it.
+//! Queries of headers and origins of messages. None changes the core.
 ghost use Rattle.std.specs.Prelude.{◌≡◌, Some, IsSome, IsSomeAnd, option_and_then};
 ghost use Rattle.rr_protocol.specs.Messages.{request_in, response_in};
 ghost use Rattle.rr_protocol.specs.Queries.{kind_at, request_header, response_header};
@@ -18,12 +18,13 @@ impl<QB: Body, QH: Default + Drop, PB: Body, PH: Default + Drop, K: Backpressure
     PH,
     K,
 > {
-    /// Returns the header of a handle's request. One look. After iceoryx2's `header` of `RequestMut`,
+    /// Returns the header of a handle's request. Takes one look-up. After iceoryx2's `header` of `RequestMut`,
     /// `PendingResponse` and `ActiveRequest`.
     #[inline(always)]
     pub fn request_header(&self, id: &HandleId) -> RequestHeader
         requires { IsSome (option_and_then request_in (handle_at self.now id.now)) }
-        ensures { IsSomeAnd (option_and_then request_in (handle_at self.now id.now)) (λ m. result ≡ request_header self.now m) }
+        ensures { IsSomeAnd (option_and_then request_in (handle_at self.now id.now))
+            (λ m. result ≡ request_header self.now m) }
     {
         let entry = self.parts.look_up(id);
         let details = self.parts.clients.details(entry.sender, entry.slot);
@@ -40,11 +41,13 @@ impl<QB: Body, QH: Default + Drop, PB: Body, PH: Default + Drop, K: Backpressure
         }
     }
 
-    /// Returns the header of a handle's response. One look. After iceoryx2's `header` of `ResponseMut` and `Response`.
+    /// Returns the header of a handle's response. Takes one look-up. After iceoryx2's `header` of `ResponseMut` and
+    /// `Response`.
     #[inline(always)]
     pub fn response_header(&self, id: &HandleId) -> ResponseHeader
         requires { IsSome (option_and_then response_in (handle_at self.now id.now)) }
-        ensures { IsSomeAnd (option_and_then response_in (handle_at self.now id.now)) (λ m. result ≡ response_header self.now m) }
+        ensures { IsSomeAnd (option_and_then response_in (handle_at self.now id.now))
+            (λ m. result ≡ response_header self.now m) }
     {
         let entry = self.parts.look_up(id);
         let details = self.parts.servers.details(entry.sender, entry.slot);
@@ -61,29 +64,32 @@ impl<QB: Body, QH: Default + Drop, PB: Body, PH: Default + Drop, K: Backpressure
         }
     }
 
-    /// Returns the user header of a handle's request. One look. After iceoryx2's `user_header` of `RequestMut`,
-    /// `PendingResponse` and `ActiveRequest`.
+    /// Returns the user header of a handle's request. Takes one look-up. After iceoryx2's `user_header` of
+    /// `RequestMut`, `PendingResponse` and `ActiveRequest`.
     #[inline(always)]
     pub fn request_user_header(&self, id: &HandleId) -> &QH
         requires { IsSome (option_and_then request_in (handle_at self.now id.now)) }
-        ensures { IsSomeAnd (option_and_then request_in (handle_at self.now id.now)) (λ m. result.now ≡ m.content.user_header) }
+        ensures { IsSomeAnd (option_and_then request_in (handle_at self.now id.now))
+            (λ m. result.now ≡ m.content.user_header) }
     {
         let entry = self.parts.look_up(id);
         self.parts.clients.user_header(entry.sender, entry.slot)
     }
 
-    /// Returns the user header of a handle's response. One look. After iceoryx2's `user_header` of `ResponseMut` and
-    /// `Response`.
+    /// Returns the user header of a handle's response. Takes one look-up. After iceoryx2's `user_header` of
+    /// `ResponseMut` and `Response`.
     #[inline(always)]
     pub fn response_user_header(&self, id: &HandleId) -> &PH
         requires { IsSome (option_and_then response_in (handle_at self.now id.now)) }
-        ensures { IsSomeAnd (option_and_then response_in (handle_at self.now id.now)) (λ m. result.now ≡ m.content.user_header) }
+        ensures { IsSomeAnd (option_and_then response_in (handle_at self.now id.now))
+            (λ m. result.now ≡ m.content.user_header) }
     {
         let entry = self.parts.look_up(id);
         self.parts.servers.user_header(entry.sender, entry.slot)
     }
 
-    /// Returns the client that sent an active request's request. One look. After iceoryx2's `ActiveRequest::origin`.
+    /// Returns the client that sent an active request's request. Takes one look-up. After iceoryx2's
+    /// `ActiveRequest::origin`.
     #[inline(always)]
     pub fn request_origin(&self, id: &HandleId) -> UniqueClientId
         requires { kind_at self.now id.now ≡ Some Kind.ActiveRequest }
@@ -93,7 +99,7 @@ impl<QB: Body, QH: Default + Drop, PB: Body, PH: Default + Drop, K: Backpressure
         UniqueClientId(self.parts.clients.details(entry.sender, entry.slot).client)
     }
 
-    /// Returns the server that sent a received response. One look. After iceoryx2's `Response::origin`.
+    /// Returns the server that sent a received response. Takes one look-up. After iceoryx2's `Response::origin`.
     #[inline(always)]
     pub fn response_origin(&self, id: &HandleId) -> UniqueServerId
         requires { kind_at self.now id.now ≡ Some Kind.Response }

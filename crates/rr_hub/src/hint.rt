@@ -1,4 +1,4 @@
-//! What a core tells of hints and connections of pending responses. No query changes it.
+//! Queries of hints and connections of pending responses. None changes the core.
 ghost use Rattle.std.specs.Prelude.{◌≡◌, false, None, Some, IsSomeAnd};
 ghost use Rattle.rr_protocol.specs.Queries.{has_disconnect_hint, kind_at};
 ghost use Rattle.rr_protocol.specs.State.{pending_at, active_at};
@@ -16,8 +16,8 @@ impl<QB: Body, QH: Default + Drop, PB: Body, PH: Default + Drop, K: Backpressure
     PH,
     K,
 > {
-    /// Returns how many queues took a pending response's request as it was sent. One look. After iceoryx2's
-    /// `PendingResponse::number_of_server_connections`.
+    /// Returns how many servers' queues took a pending response's request when it was sent, in one look-up. After
+    /// iceoryx2's `PendingResponse::number_of_server_connections`.
     #[inline(always)]
     pub fn number_of_server_connections(&self, id: &HandleId) -> usize
         requires { kind_at self.now id.now ≡ Some Kind.PendingResponse }
@@ -26,12 +26,13 @@ impl<QB: Body, QH: Default + Drop, PB: Body, PH: Default + Drop, K: Backpressure
         connections(self.parts.look_up(id).stage)
     }
 
-    /// Returns whether the pending response of an active request's request lives and has its hint set. Looks at the one place
-    /// where that handle can stand. After iceoryx2's `ActiveRequest::has_disconnect_hint`.
+    /// Returns whether the pending response of an active request's request lives and has its hint set. Reads the only
+    /// place where that handle can be. After iceoryx2's `ActiveRequest::has_disconnect_hint`.
     #[inline(always)]
     pub fn has_disconnect_hint(&self, id: &HandleId) -> bool
         requires { kind_at self.now id.now ≡ Some Kind.ActiveRequest }
-        ensures { IsSomeAnd (active_at self.now id.now) (λ active. result ≡ has_disconnect_hint self.now active.message.number) }
+        ensures { IsSomeAnd (active_at self.now id.now)
+            (λ active. result ≡ has_disconnect_hint self.now active.message.number) }
     {
         let entry = self.parts.look_up(id);
         let details = self.parts.clients.details(entry.sender, entry.slot);

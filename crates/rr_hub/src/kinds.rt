@@ -1,4 +1,4 @@
-//! What a number names.
+//! The kinds of numbers.
 ghost use Rattle.std.specs.Prelude.{◌≡◌, None, Some, if◌then◌else◌};
 ghost use Rattle.rr_protocol.specs.declared.kind.Kind.TheVariants as kind;
 ghost use Rattle.rr_protocol.specs.Queries.{kind_at};
@@ -13,9 +13,10 @@ use rr_slots::Body;
 use rr_store::{Stage, Store};
 use rr_table::Place;
 
-/// Returns what a number names: a client or a server whose value lives, or a handle. Returns `None` if it names nothing.
+/// Returns the kind of a number: a client or a server whose value lives, or a handle. Returns `None` if it names
+/// nothing.
 ///
-/// Looks in the place first, then among the ports in O(log ports), and walks over the table at last.
+/// Tries the place first, then searches the ports in O(log ports), and last the table.
 #[inline(always)]
 pub fn kind_of<QB: Body, QH: Default + Drop, PB: Body, PH: Default + Drop, K: BackpressureFn>(
     store: &Store<QB, QH, PB, PH, K>,
@@ -31,9 +32,10 @@ pub fn kind_of<QB: Body, QH: Default + Drop, PB: Body, PH: Default + Drop, K: Ba
     kind_elsewhere(store, number)
 }
 
-/// Returns what a number names: a port, or a handle in whatever place.
+/// Returns the kind of a number that is not in its place: a port, or a handle in any place.
 ///
-/// A call of its own, so that callers whose handle stands where its id says need no registers for these walks.
+/// It is a separate function so that callers whose handle is in the place of its id need no registers for these
+/// searches.
 #[inline(never)]
 fn kind_elsewhere<QB: Body, QH: Default + Drop, PB: Body, PH: Default + Drop, K: BackpressureFn>(
     store: &Store<QB, QH, PB, PH, K>,
@@ -53,14 +55,15 @@ fn kind_elsewhere<QB: Body, QH: Default + Drop, PB: Body, PH: Default + Drop, K:
 
 /// Returns which port a number names: a client or a server whose value lives. Returns `None` if it names none.
 ///
-/// Takes O(log ports), and looks at no handle.
+/// Takes O(log ports), and reads no handle.
 #[inline(always)]
 pub fn port_kind_of<QB: Body, QH: Default + Drop, PB: Body, PH: Default + Drop, K: BackpressureFn>(
     store: &Store<QB, QH, PB, PH, K>,
     number: u64,
 ) -> Option<Kind>
     requires { IsCore (opened store.now) }
-    ensures { result ≡ (if is_client_value (state_of (opened store.now)) number then Some kind.Client else if is_server_value (state_of (opened store.now)) number then Some kind.Server else None) }
+    ensures { result ≡ (if is_client_value (state_of (opened store.now)) number then Some kind.Client else if
+        is_server_value (state_of (opened store.now)) number then Some kind.Server else None) }
 {
     if store.clients.is_value(number) {
         return Some(Kind::Client);

@@ -1,4 +1,4 @@
-//! Lending what a message says for writing, before it is sent.
+//! Lending the content of a loaned message for writing.
 ghost use Rattle.std.specs.Prelude.{◌≡◌, ◌<◌, ◌⊎◌, length, Some, IsSomeAnd, option_and_then, slice_get};
 ghost use Rattle.std.specs.Borrow.{sem};
 ghost use Rattle.rr_slots.specs.Elements.{option_elements};
@@ -24,10 +24,14 @@ impl<QB: WriteBody, QH: Default + Drop, PB: Body, PH: Default + Drop, K: Backpre
     ///
     /// After iceoryx2's `RequestMut::payload_mut`.
     pub fn request_element_mut(&mut self, id: &HandleId, index: usize) -> &mut QB::Item
-        requires kind { (kind_at self.old id.now ≡ Some Kind.RequestMutUninit) ⊎ (kind_at self.old id.now ≡ Some Kind.RequestMut) }
-        requires inside { IsSomeAnd (option_and_then request_in (handle_at self.old id.now)) (λ m. index < length m.content.elements) }
-        ensures* lends { sem 𝓛 (lends_request_element QB.row QH.row PB.row PH.row K.row QB.Item.row PB.Item.row QB.Body QH.Default PB.Body PH.Default K.BackpressureFn self.entry id.now index result) }
-        ensures value { IsSomeAnd (option_and_then request_in (handle_at self.old id.now)) (λ m. slice_get m.content.elements index ≡ Some result.now) }
+        requires kind { (kind_at self.old id.now ≡ Some Kind.RequestMutUninit)
+            ⊎ (kind_at self.old id.now ≡ Some Kind.RequestMut) }
+        requires inside { IsSomeAnd (option_and_then request_in (handle_at self.old id.now))
+            (λ m. index < length m.content.elements) }
+        ensures* lends { sem 𝓛 (lends_request_element QB.row QH.row PB.row PH.row K.row QB.Item.row PB.Item.row
+            QB.Body QH.Default PB.Body PH.Default K.BackpressureFn self.entry id.now index result) }
+        ensures value { IsSomeAnd (option_and_then request_in (handle_at self.old id.now))
+            (λ m. slice_get m.content.elements index ≡ Some result.now) }
     {
         let entry = self.parts.look_up(id);
         self.parts
@@ -49,9 +53,12 @@ impl<QB: Body, QH: Default + Drop, PB: Body, PH: Default + Drop, K: Backpressure
     ///
     /// After iceoryx2's `RequestMut::user_header_mut`.
     pub fn request_user_header_mut(&mut self, id: &HandleId) -> &mut QH
-        requires { (kind_at self.old id.now ≡ Some Kind.RequestMutUninit) ⊎ (kind_at self.old id.now ≡ Some Kind.RequestMut) }
-        ensures* lends { sem 𝓛 (lends_request_user_header QB.row QH.row PB.row PH.row K.row QB.Item.row PB.Item.row QB.Body QH.Default PB.Body PH.Default K.BackpressureFn self.entry id.now result) }
-        ensures value { IsSomeAnd (option_and_then request_in (handle_at self.old id.now)) (λ m. m.content.user_header ≡ result.now) }
+        requires { (kind_at self.old id.now ≡ Some Kind.RequestMutUninit)
+            ⊎ (kind_at self.old id.now ≡ Some Kind.RequestMut) }
+        ensures* lends { sem 𝓛 (lends_request_user_header QB.row QH.row PB.row PH.row K.row QB.Item.row PB.Item.row
+            QB.Body QH.Default PB.Body PH.Default K.BackpressureFn self.entry id.now result) }
+        ensures value { IsSomeAnd (option_and_then request_in (handle_at self.old id.now))
+            (λ m. m.content.user_header ≡ result.now) }
     {
         let entry = self.parts.look_up(id);
         self.parts.clients.user_header_mut(entry.sender, entry.slot)
@@ -61,9 +68,12 @@ impl<QB: Body, QH: Default + Drop, PB: Body, PH: Default + Drop, K: Backpressure
     ///
     /// After iceoryx2's `ResponseMut::user_header_mut`.
     pub fn response_user_header_mut(&mut self, id: &HandleId) -> &mut PH
-        requires { (kind_at self.old id.now ≡ Some Kind.ResponseMutUninit) ⊎ (kind_at self.old id.now ≡ Some Kind.ResponseMut) }
-        ensures* lends { sem 𝓛 (lends_response_user_header QB.row QH.row PB.row PH.row K.row QB.Item.row PB.Item.row QB.Body QH.Default PB.Body PH.Default K.BackpressureFn self.entry id.now result) }
-        ensures value { IsSomeAnd (option_and_then response_in (handle_at self.old id.now)) (λ m. m.content.user_header ≡ result.now) }
+        requires { (kind_at self.old id.now ≡ Some Kind.ResponseMutUninit)
+            ⊎ (kind_at self.old id.now ≡ Some Kind.ResponseMut) }
+        ensures* lends { sem 𝓛 (lends_response_user_header QB.row QH.row PB.row PH.row K.row QB.Item.row PB.Item.row
+            QB.Body QH.Default PB.Body PH.Default K.BackpressureFn self.entry id.now result) }
+        ensures value { IsSomeAnd (option_and_then response_in (handle_at self.old id.now))
+            (λ m. m.content.user_header ≡ result.now) }
     {
         let entry = self.parts.look_up(id);
         self.parts.servers.user_header_mut(entry.sender, entry.slot)
@@ -83,10 +93,14 @@ impl<QB: Body, QH: Default + Drop, PB: WriteBody, PH: Default + Drop, K: Backpre
     ///
     /// After iceoryx2's `ResponseMut::payload_mut`.
     pub fn response_element_mut(&mut self, id: &HandleId, index: usize) -> &mut PB::Item
-        requires kind { (kind_at self.old id.now ≡ Some Kind.ResponseMutUninit) ⊎ (kind_at self.old id.now ≡ Some Kind.ResponseMut) }
-        requires inside { IsSomeAnd (option_and_then response_in (handle_at self.old id.now)) (λ m. index < length m.content.elements) }
-        ensures* lends { sem 𝓛 (lends_response_element QB.row QH.row PB.row PH.row K.row QB.Item.row PB.Item.row QB.Body QH.Default PB.Body PH.Default K.BackpressureFn self.entry id.now index result) }
-        ensures value { IsSomeAnd (option_and_then response_in (handle_at self.old id.now)) (λ m. slice_get m.content.elements index ≡ Some result.now) }
+        requires kind { (kind_at self.old id.now ≡ Some Kind.ResponseMutUninit)
+            ⊎ (kind_at self.old id.now ≡ Some Kind.ResponseMut) }
+        requires inside { IsSomeAnd (option_and_then response_in (handle_at self.old id.now))
+            (λ m. index < length m.content.elements) }
+        ensures* lends { sem 𝓛 (lends_response_element QB.row QH.row PB.row PH.row K.row QB.Item.row PB.Item.row
+            QB.Body QH.Default PB.Body PH.Default K.BackpressureFn self.entry id.now index result) }
+        ensures value { IsSomeAnd (option_and_then response_in (handle_at self.old id.now))
+            (λ m. slice_get m.content.elements index ≡ Some result.now) }
     {
         let entry = self.parts.look_up(id);
         self.parts
@@ -104,13 +118,15 @@ impl<T: Drop, QH: Default + Drop, PB: Body, PH: Default + Drop, K: BackpressureF
 > {
     ghost use Rattle.rr_hub.specs.CoreLends.{lends_request_option};
 
-    /// Lends what stands in a request of one element that is being written: an element, or `None` before one was written.
+    /// Lends the body of a request of one element on loan: the element, or `None` before it was written.
     ///
     /// After iceoryx2's `RequestMutUninit::payload_mut`, which lends a `MaybeUninit`.
     pub fn request_option_mut(&mut self, id: &HandleId) -> &mut Option<T>
         requires { kind_at self.old id.now ≡ Some Kind.RequestMutUninit }
-        ensures* lends { sem 𝓛 (lends_request_option T.row QH.row PB.row PH.row K.row PB.Item.row QH.Default PB.Body PH.Default K.BackpressureFn self.entry id.now ⟦<Option<T> as Body>⟧ result) }
-        ensures value { IsSomeAnd (option_and_then request_in (handle_at self.old id.now)) (λ m. m.content.elements ≡ option_elements result.now) }
+        ensures* lends { sem 𝓛 (lends_request_option T.row QH.row PB.row PH.row K.row PB.Item.row QH.Default PB.Body
+            PH.Default K.BackpressureFn self.entry id.now ⟦<Option<T> as Body>⟧ result) }
+        ensures value { IsSomeAnd (option_and_then request_in (handle_at self.old id.now))
+            (λ m. m.content.elements ≡ option_elements result.now) }
     {
         let entry = self.parts.look_up(id);
         self.parts.clients.option_mut(entry.sender, entry.slot)
@@ -130,9 +146,12 @@ impl<QB: LendBody, QH: Default + Drop, PB: Body, PH: Default + Drop, K: Backpres
     ///
     /// After iceoryx2's `RequestMutUninit::payload_mut` and `RequestMut::payload_mut`.
     pub fn request_slice_mut(&mut self, id: &HandleId) -> &mut [QB::Item]
-        requires { (kind_at self.old id.now ≡ Some Kind.RequestMutUninit) ⊎ (kind_at self.old id.now ≡ Some Kind.RequestMut) }
-        ensures* lends { sem 𝓛 (lends_request_slice QB.row QH.row PB.row PH.row K.row QB.Item.row PB.Item.row QB.Body QH.Default PB.Body PH.Default K.BackpressureFn self.entry id.now result) }
-        ensures value { IsSomeAnd (option_and_then request_in (handle_at self.old id.now)) (λ m. m.content.elements ≡ result.now) }
+        requires { (kind_at self.old id.now ≡ Some Kind.RequestMutUninit)
+            ⊎ (kind_at self.old id.now ≡ Some Kind.RequestMut) }
+        ensures* lends { sem 𝓛 (lends_request_slice QB.row QH.row PB.row PH.row K.row QB.Item.row PB.Item.row QB.Body
+            QH.Default PB.Body PH.Default K.BackpressureFn self.entry id.now result) }
+        ensures value { IsSomeAnd (option_and_then request_in (handle_at self.old id.now))
+            (λ m. m.content.elements ≡ result.now) }
     {
         let entry = self.parts.look_up(id);
         self.parts.clients.slice_mut(entry.sender, entry.slot)
@@ -148,13 +167,15 @@ impl<QB: Body, QH: Default + Drop, T: Drop, PH: Default + Drop, K: BackpressureF
 > {
     ghost use Rattle.rr_hub.specs.CoreLends.{lends_response_option};
 
-    /// Lends what stands in a response of one element that is being written: an element, or `None` before one was written.
+    /// Lends the body of a response of one element on loan: the element, or `None` before it was written.
     ///
     /// After iceoryx2's `ResponseMutUninit::payload_mut`, which lends a `MaybeUninit`.
     pub fn response_option_mut(&mut self, id: &HandleId) -> &mut Option<T>
         requires { kind_at self.old id.now ≡ Some Kind.ResponseMutUninit }
-        ensures* lends { sem 𝓛 (lends_response_option QB.row QH.row T.row PH.row K.row QB.Item.row QB.Body QH.Default PH.Default K.BackpressureFn self.entry id.now ⟦<Option<T> as Body>⟧ result) }
-        ensures value { IsSomeAnd (option_and_then response_in (handle_at self.old id.now)) (λ m. m.content.elements ≡ option_elements result.now) }
+        ensures* lends { sem 𝓛 (lends_response_option QB.row QH.row T.row PH.row K.row QB.Item.row QB.Body QH.Default
+            PH.Default K.BackpressureFn self.entry id.now ⟦<Option<T> as Body>⟧ result) }
+        ensures value { IsSomeAnd (option_and_then response_in (handle_at self.old id.now))
+            (λ m. m.content.elements ≡ option_elements result.now) }
     {
         let entry = self.parts.look_up(id);
         self.parts.servers.option_mut(entry.sender, entry.slot)
@@ -174,9 +195,12 @@ impl<QB: Body, QH: Default + Drop, PB: LendBody, PH: Default + Drop, K: Backpres
     ///
     /// After iceoryx2's `ResponseMutUninit::payload_mut` and `ResponseMut::payload_mut`.
     pub fn response_slice_mut(&mut self, id: &HandleId) -> &mut [PB::Item]
-        requires { (kind_at self.old id.now ≡ Some Kind.ResponseMutUninit) ⊎ (kind_at self.old id.now ≡ Some Kind.ResponseMut) }
-        ensures* lends { sem 𝓛 (lends_response_slice QB.row QH.row PB.row PH.row K.row QB.Item.row PB.Item.row QB.Body QH.Default PB.Body PH.Default K.BackpressureFn self.entry id.now result) }
-        ensures value { IsSomeAnd (option_and_then response_in (handle_at self.old id.now)) (λ m. m.content.elements ≡ result.now) }
+        requires { (kind_at self.old id.now ≡ Some Kind.ResponseMutUninit)
+            ⊎ (kind_at self.old id.now ≡ Some Kind.ResponseMut) }
+        ensures* lends { sem 𝓛 (lends_response_slice QB.row QH.row PB.row PH.row K.row QB.Item.row PB.Item.row QB.Body
+            QH.Default PB.Body PH.Default K.BackpressureFn self.entry id.now result) }
+        ensures value { IsSomeAnd (option_and_then response_in (handle_at self.old id.now))
+            (λ m. m.content.elements ≡ result.now) }
     {
         let entry = self.parts.look_up(id);
         self.parts.servers.slice_mut(entry.sender, entry.slot)

@@ -20,16 +20,17 @@ impl<QB: WriteBody, QH: Default + Drop, PB: Body, PH: Default + Drop, K: Backpre
     PH,
     K,
 > {
-    /// Loans a request of `len` elements, a length that the body's family takes, from a client whose value lives. It has the
-    /// next number, of which one remains, any free channel and a default user header. After iceoryx2's `Client::loan_uninit`.
+    /// Loans a request of `len` elements, a length that the body's family takes, from a client whose value lives. It
+    /// has the next number, of which one remains, any free channel and a default user header. After iceoryx2's
+    /// `Client::loan_uninit`.
     ///
     /// # Errors
     ///
     /// An error leaves the hub as it was.
     /// - `ExceedsMaxLoanSize` if a slice is longer than a static pool has room for.
-    /// - `ExceedsMaxLoans` if the client has as many requests on loan as it may.
-    /// - `OutOfMemory` if the client's live requests fill its pool, or a longer slice found no memory. Up to the initial slice
-    ///   length a pool of the worst-case size never returns it.
+    /// - `ExceedsMaxLoans` if the client has its maximum of requests on loan.
+    /// - `OutOfMemory` if the client's live requests fill its pool, or there was no memory for a longer slice. Up to
+    ///   the initial slice length a pool of the worst-case size never returns it.
     #[inline(always)]
     pub fn loan_request(&mut self, client: u64, len: usize) -> Result<HandleId, LoanError>
         requires kind { kind_at self.old client ≡ Some kind.Client }
@@ -50,17 +51,17 @@ impl<QB: Body, QH: Default + Drop, PB: WriteBody, PH: Default + Drop, K: Backpre
     PH,
     K,
 > {
-    /// Loans a response of `len` elements, a length that the body's family takes, from an active request. It has the next
-    /// number, of which one remains, a default user header, and the request's channel. After iceoryx2's
+    /// Loans a response of `len` elements, a length that the body's family takes, from an active request. It has the
+    /// next number, of which one remains, a default user header, and the request's channel. After iceoryx2's
     /// `ActiveRequest::loan_uninit`.
     ///
     /// # Errors
     ///
     /// An error leaves the hub as it was.
     /// - `ExceedsMaxLoanSize` if a slice is longer than a static pool has room for.
-    /// - `ExceedsMaxLoans` if the active request, or its server, has as many responses on loan as it may.
-    /// - `OutOfMemory` if the server's live responses fill its pool, or a longer slice found no memory. Up to the initial slice
-    ///   length a pool of the worst-case size never returns it.
+    /// - `ExceedsMaxLoans` if the active request, or its server, has its maximum of responses on loan.
+    /// - `OutOfMemory` if the server's live responses fill its pool, or there was no memory for a longer slice. Up to
+    ///   the initial slice length a pool of the worst-case size never returns it.
     #[inline(always)]
     pub fn loan_response(&mut self, active: &HandleId, len: usize) -> Result<HandleId, LoanError>
         requires kind { kind_at self.old active.now ≡ Some kind.ActiveRequest }
@@ -68,7 +69,8 @@ impl<QB: Body, QH: Default + Drop, PB: WriteBody, PH: Default + Drop, K: Backpre
         requires len { IsTrue (takes_len PB.family len) }
         ensures loans { LoansResponse PH.is_default self.old active.now len result self.new }
         ensures unnamed { IfOk result (λ number. kind_at self.old number ≡ None) }
-        ensures unreduced { ServerHasPool self.old.limits self.old active.now len → result ≢ Err LoanError.OutOfMemory }
+        ensures unreduced { ServerHasPool self.old.limits self.old active.now len
+            → result ≢ Err LoanError.OutOfMemory }
     {
         let place = active.place();
         if self.parts.is_place_of(active.number(), place) {

@@ -1,4 +1,4 @@
-//! What a core tells of its ports and handles. No query changes it.
+//! Queries of ports and handles. None changes the core.
 ghost use Rattle.std.specs.Prelude.{◌≡◌, false, nat_lt, length, None, Some, IsSome, IsSomeAnd, if◌then◌else◌, option_and_then};
 ghost use Rattle.rr_laws.specs.Complete.{HasComplete};
 ghost use Rattle.rr_protocol.specs.Counts.{is_alive};
@@ -20,9 +20,9 @@ impl<QB: Body, QH: Default + Drop, PB: Body, PH: Default + Drop, K: Backpressure
     PH,
     K,
 > {
-    /// Returns what a number names: a client or a server whose value lives, or a handle. Returns `None` if it names nothing. Finds
-    /// a handle where its id says, and a port in O(log ports); walks over the table at last, where the id is wrong or the number
-    /// names nothing. Not in iceoryx2.
+    /// Returns the kind of a number: a client or a server whose value lives, or a handle. Returns `None` if it names
+    /// nothing. Tries the place in the id, then the ports in O(log ports), and searches the table only if the id is
+    /// wrong or the number names nothing. Not in iceoryx2.
     #[inline(always)]
     pub fn kind(&self, id: &HandleId) -> Option<Kind>
         ensures { result ≡ kind_at self.now id.now }
@@ -30,11 +30,12 @@ impl<QB: Body, QH: Default + Drop, PB: Body, PH: Default + Drop, K: Backpressure
         kind_of(&self.parts, id.number(), id.place())
     }
 
-    /// Returns which port a number names: a client or a server whose value lives. Returns `None` if it names none, also if it names
-    /// a handle. Takes O(log ports), and never walks over the table. Not in iceoryx2.
+    /// Returns the kind of a port's number: a client or a server whose value lives. Returns `None` for any other
+    /// number, even a handle's. Takes O(log ports), and never searches the table. Not in iceoryx2.
     #[inline(always)]
     pub fn port_kind(&self, number: u64) -> Option<Kind>
-        ensures { result ≡ (if is_client_value self.now number then Some Kind.Client else if is_server_value self.now number then Some Kind.Server else None) }
+        ensures { result ≡ (if is_client_value self.now number then Some Kind.Client else if is_server_value self.now
+            number then Some Kind.Server else None) }
     {
         port_kind_of(&self.parts, number)
     }
@@ -44,8 +45,10 @@ impl<QB: Body, QH: Default + Drop, PB: Body, PH: Default + Drop, K: Backpressure
     #[inline(always)]
     pub fn request_body(&self, id: &HandleId) -> &QB
         requires { IsSome (option_and_then request_in (handle_at self.now id.now)) }
-        ensures asked { IsSomeAnd (option_and_then request_in (handle_at self.now id.now)) (λ m. QB.asked_len result.now ≡ m.content.asked_len) }
-        ensures elements { IsSomeAnd (option_and_then request_in (handle_at self.now id.now)) (λ m. QB.elements result.now ≡ m.content.elements) }
+        ensures asked { IsSomeAnd (option_and_then request_in (handle_at self.now id.now))
+            (λ m. QB.asked_len result.now ≡ m.content.asked_len) }
+        ensures elements { IsSomeAnd (option_and_then request_in (handle_at self.now id.now))
+            (λ m. QB.elements result.now ≡ m.content.elements) }
 
         // The payload of every handle but a `RequestMutUninit` is complete.
         ensures complete { IsSomeAnd (handle_at self.now id.now) HasComplete }
@@ -54,13 +57,15 @@ impl<QB: Body, QH: Default + Drop, PB: Body, PH: Default + Drop, K: Backpressure
         self.parts.clients.body(entry.sender, entry.slot)
     }
 
-    /// Returns the body of a handle's response, as far as it was written. After iceoryx2's `payload` of `ResponseMut` and
-    /// `Response`.
+    /// Returns the body of a handle's response, as far as it was written. After iceoryx2's `payload` of `ResponseMut`
+    /// and `Response`.
     #[inline(always)]
     pub fn response_body(&self, id: &HandleId) -> &PB
         requires { IsSome (option_and_then response_in (handle_at self.now id.now)) }
-        ensures asked { IsSomeAnd (option_and_then response_in (handle_at self.now id.now)) (λ m. PB.asked_len result.now ≡ m.content.asked_len) }
-        ensures elements { IsSomeAnd (option_and_then response_in (handle_at self.now id.now)) (λ m. PB.elements result.now ≡ m.content.elements) }
+        ensures asked { IsSomeAnd (option_and_then response_in (handle_at self.now id.now))
+            (λ m. PB.asked_len result.now ≡ m.content.asked_len) }
+        ensures elements { IsSomeAnd (option_and_then response_in (handle_at self.now id.now))
+            (λ m. PB.elements result.now ≡ m.content.elements) }
 
         // The payload of every handle but a `ResponseMutUninit` is complete.
         ensures complete { IsSomeAnd (handle_at self.now id.now) HasComplete }
@@ -69,8 +74,8 @@ impl<QB: Body, QH: Default + Drop, PB: Body, PH: Default + Drop, K: Backpressure
         self.parts.servers.body(entry.sender, entry.slot)
     }
 
-    /// Returns whether a connected server may still answer a pending response's request. Looks once at each connected server.
-    /// After iceoryx2's `PendingResponse::is_connected`.
+    /// Returns whether a connected server may still answer a pending response's request. Reads each connected server
+    /// once. After iceoryx2's `PendingResponse::is_connected`.
     #[inline(always)]
     pub fn is_pending_connected(&self, id: &HandleId) -> bool
         requires { kind_at self.now id.now ≡ Some Kind.PendingResponse }
@@ -80,8 +85,8 @@ impl<QB: Body, QH: Default + Drop, PB: Body, PH: Default + Drop, K: Backpressure
         is_answerable(&self.parts, entry.sender, entry.slot)
     }
 
-    /// Returns whether the pending response of an active request's request lives. Looks at the one place where that handle can
-    /// stand. After iceoryx2's `ActiveRequest::is_connected`.
+    /// Returns whether the pending response of an active request's request lives. Reads the only place where that
+    /// handle can be. After iceoryx2's `ActiveRequest::is_connected`.
     #[inline(always)]
     pub fn is_active_connected(&self, id: &HandleId) -> bool
         requires { kind_at self.now id.now ≡ Some Kind.ActiveRequest }
@@ -96,8 +101,8 @@ impl<QB: Body, QH: Default + Drop, PB: Body, PH: Default + Drop, K: Backpressure
         }
     }
 
-    /// Returns the number of the request that a server received as an active request. Not in iceoryx2, which has no numbers of
-    /// requests.
+    /// Returns the number of the request that a server received as an active request. Not in iceoryx2, which has no
+    /// numbers of requests.
     #[inline(always)]
     pub fn request_number(&self, id: &HandleId) -> u64
         requires { IsSome (active_at self.now id.now) }

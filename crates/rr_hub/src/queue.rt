@@ -1,4 +1,4 @@
-//! What a core tells of queues: whether something waits in one, and whether one takes a message. No query changes it.
+//! Queries of queues: whether one has an entry, and whether one takes a message. None changes the core.
 ghost use Rattle.std.specs.Prelude.{◌≡◌, ◌↔◌, Some, None, IsSomeAnd, IsTrue};
 ghost use Rattle.rr_protocol.specs.Queries.{HasRequests, HasResponse, kind_at};
 ghost use Rattle.rr_protocol.specs.Sends.{is_request_deliverable, is_response_deliverable, is_response_refused, request_send_refusal};
@@ -17,9 +17,9 @@ impl<QB: Body, QH: Default + Drop, PB: Body, PH: Default + Drop, K: Backpressure
     PH,
     K,
 > {
-    /// Returns whether a request waits for a server whose value lives, also one that nobody waits for. Takes
-    /// O(log servers), and a look at most at each client's sender, also those of clients that left. After iceoryx2's
-    /// `Server::has_requests`.
+    /// Returns whether a request is queued for a server whose value lives, even if nobody waits for its answer. Takes
+    /// O(log servers), and polls each client's sender at most once, including those of clients that left. After
+    /// iceoryx2's `Server::has_requests`.
     #[inline(always)]
     pub fn has_requests(&self, server: u64) -> bool
         requires { kind_at self.now server ≡ Some Kind.Server }
@@ -33,8 +33,8 @@ impl<QB: Body, QH: Default + Drop, PB: Body, PH: Default + Drop, K: Backpressure
         self.parts.clients.is_waiting(receiver, 0)
     }
 
-    /// Returns whether a response waits for a pending response. Looks at most once at each server's sender, also those of servers
-    /// that left. After iceoryx2's `PendingResponse::has_response`.
+    /// Returns whether a response is queued for a pending response. Polls each server's sender at most once,
+    /// including those of servers that left. After iceoryx2's `PendingResponse::has_response`.
     #[inline(always)]
     pub fn has_response(&self, id: &HandleId) -> bool
         requires { kind_at self.now id.now ≡ Some Kind.PendingResponse }
@@ -45,8 +45,8 @@ impl<QB: Body, QH: Default + Drop, PB: Body, PH: Default + Drop, K: Backpressure
         self.parts.servers.is_waiting(receiver, entry.slot)
     }
 
-    /// Returns whether each queue that a request would reach takes it: none is full, or full ones may overflow. Looks at most once
-    /// at each connected server. Not in iceoryx2.
+    /// Returns whether each queue that a request would reach takes it: none is full, or full ones may overflow. Reads
+    /// each connected server at most once. Not in iceoryx2.
     #[inline(always)]
     pub fn is_request_deliverable(&self, id: &HandleId) -> bool
         requires { kind_at self.now id.now ≡ Some Kind.RequestMut }
@@ -56,8 +56,8 @@ impl<QB: Body, QH: Default + Drop, PB: Body, PH: Default + Drop, K: Backpressure
         takes_request(&self.parts, entry.sender)
     }
 
-    /// Returns whether the queue that a response would reach takes it, if it would reach one: it is not full, or may overflow.
-    /// Looks at the one place where its request's handle can stand, and at one queue. Not in iceoryx2.
+    /// Returns whether the queue that a response would reach, if any, takes it: it is not full, or may overflow.
+    /// Reads the only place where its request's handle can be, and one queue. Not in iceoryx2.
     #[inline(always)]
     pub fn is_response_deliverable(&self, id: &HandleId) -> bool
         requires { kind_at self.now id.now ≡ Some Kind.ResponseMut }
@@ -72,23 +72,25 @@ impl<QB: Body, QH: Default + Drop, PB: Body, PH: Default + Drop, K: Backpressure
         takes_response(&self.parts, entry.sender, details.channel, reach)
     }
 
-    /// Returns the first reason against a send of a request that can be sent. Returns `None` if it would be sent. Looks at most
-    /// twice at each connected server. Not in iceoryx2.
+    /// Returns the first reason that refuses to send a request that is ready, or `None` if it would be sent. Reads
+    /// each connected server at most twice. Not in iceoryx2.
     #[inline(always)]
     pub fn request_send_refusal(&self, id: &HandleId) -> Option<RequestSendError>
         requires { kind_at self.now id.now ≡ Some Kind.RequestMut }
-        ensures { IsRequestMutAnd self.now id.now (λ client message. result ≡ request_send_refusal K.action self.now client message) }
+        ensures { IsRequestMutAnd self.now id.now (λ client message.
+            result ≡ request_send_refusal K.action self.now client message) }
     {
         let place = self.parts.locate(id);
         request_refusal_at(&self.parts, id.number(), place)
     }
 
-    /// Returns whether a send of a response that can be sent would be refused. Looks at the one place where its request's handle
-    /// can stand, and at one queue. Not in iceoryx2.
+    /// Returns whether a send of a response that is ready would be refused. Reads the only place where its request's
+    /// handle can be, and one queue. Not in iceoryx2.
     #[inline(always)]
     pub fn is_response_refused(&self, id: &HandleId) -> bool
         requires { kind_at self.now id.now ≡ Some Kind.ResponseMut }
-        ensures { IsResponseMutAnd self.now id.now (λ server message. result ≡ is_response_refused K.action self.now server message) }
+        ensures { IsResponseMutAnd self.now id.now (λ server message.
+            result ≡ is_response_refused K.action self.now server message) }
     {
         let place = self.parts.locate(id);
         is_response_refused_at(&self.parts, id.number(), place)

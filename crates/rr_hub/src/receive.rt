@@ -18,9 +18,9 @@ impl<QB: Body, QH: Default + Drop, PB: Body, PH: Default + Drop, K: Backpressure
     PH,
     K,
 > {
-    /// Receives the oldest response that some server's queue on the request's channel has. It keeps its number. Returns `None`
-    /// if no response is queued. Looks once at the sender of each server, of those that left as well until a creation takes it,
-    /// and takes no memory. After iceoryx2's `PendingResponse::receive`.
+    /// Receives the oldest response in a server's queue on the request's channel. It keeps its number. Returns `None`
+    /// if no response is queued. Polls the sender of each server once, including those of servers that left, until a
+    /// creation reuses them, and takes no memory. After iceoryx2's `PendingResponse::receive`.
     ///
     /// # Errors
     ///
@@ -40,16 +40,16 @@ impl<QB: Body, QH: Default + Drop, PB: Body, PH: Default + Drop, K: Backpressure
         }
     }
 
-    /// Receives the oldest request of some client for a server whose value lives. It has the next number, of which one remains.
-    /// Drops requests whose pending responses were released on the way, where they are the oldest of their clients, unless the
-    /// limits have fire-and-forget requests. Returns `None` if no request is queued then. Takes O(log servers), a look
-    /// at most at the sender of each client, also of one that left until a creation takes it, and one at each request that it
-    /// drops or finds in front. Takes no memory. After iceoryx2's `Server::receive`.
+    /// Receives the oldest request of a client for a server whose value lives. It has the next number, of which one
+    /// remains. Unless the limits allow fire-and-forget requests, drops requests at the front of a queue whose
+    /// pending responses were released. Returns `None` if no request is queued then. Takes O(log servers), polls the
+    /// sender of each client at most once, including those of clients that left, until a creation reuses them, and
+    /// reads each request that it drops or finds in front. Takes no memory. After iceoryx2's `Server::receive`.
     ///
     /// # Errors
     ///
-    /// - `ExceedsMaxBorrows` if every queue that has a request is at its borrow limit. Requests that were dropped stay dropped,
-    ///   and nothing else changes.
+    /// - `ExceedsMaxBorrows` if every queue that has a request is at its borrow limit. Requests dropped on the way
+    ///   stay dropped; nothing else changes.
     #[inline(always)]
     pub fn receive_request(&mut self, server: u64) -> Result<Option<HandleId>, ReceiveError>
         requires kind { kind_at self.old server ≡ Some kind.Server }

@@ -24,10 +24,11 @@ impl<QB: Body, QH: Default + Drop, PB: Body, PH: Default + Drop, K: Backpressure
     PH,
     K,
 > {
-    /// Releases a client. Its number names nothing any more. The client stays connected as long as one of its handles lives, and
-    /// leaves with the last of them: what waits for it is dropped, and what it sent and no server received goes to the end of each
-    /// server's list of expired connections, whose oldest gives way if it is full. A server keeps such requests only with
-    /// fire-and-forget. Takes no memory. Replaces the `Drop` of iceoryx2's `Client`.
+    /// Releases a client. Its number names nothing afterwards. The client stays connected as long as one of its
+    /// handles lives, and leaves with the last of them: entries for it are dropped, and requests that it sent and no
+    /// server received are moved to the end of each server's list of expired connections, which drops its oldest if
+    /// it is full. A server keeps such requests only with fire-and-forget. Takes no memory. Replaces the `Drop` of
+    /// iceoryx2's `Client`.
     pub fn release_client(&mut self, client: u64)
         requires { kind_at self.old client ≡ Some kind.Client }
         ensures { self.new ≡ after_release self.old client }
@@ -35,10 +36,10 @@ impl<QB: Body, QH: Default + Drop, PB: Body, PH: Default + Drop, K: Backpressure
         release_client(&mut self.parts, client);
     }
 
-    /// Releases a server. Its number names nothing any more. The server stays connected as long as one of its handles lives, and
-    /// leaves with the last of them: what waits for it is dropped, and what it sent and no client received goes to the end of each
-    /// client's list of expired connections, whose oldest gives way if it is full. Takes no memory. Replaces the `Drop` of
-    /// iceoryx2's `Server`.
+    /// Releases a server. Its number names nothing afterwards. The server stays connected as long as one of its
+    /// handles lives, and leaves with the last of them: entries for it are dropped, and responses that it sent and no
+    /// client received are moved to the end of each client's list of expired connections, which drops its oldest if
+    /// it is full. Takes no memory. Replaces the `Drop` of iceoryx2's `Server`.
     pub fn release_server(&mut self, server: u64)
         requires { kind_at self.old server ≡ Some kind.Server }
         ensures { self.new ≡ after_release self.old server }
@@ -46,14 +47,15 @@ impl<QB: Body, QH: Default + Drop, PB: Body, PH: Default + Drop, K: Backpressure
         release_server(&mut self.parts, server);
     }
 
-    /// Releases a handle of any kind. Its message is gone with the last handle and entry of it. A port whose value was released
-    /// leaves with its last handle.
+    /// Releases a handle of any kind. Its message is dropped with its last handle or entry. A port whose value was
+    /// released leaves with its last handle.
     ///
-    /// A request or response on loan is never sent then. With a pending response go the responses on its channel that were not
-    /// received, and nobody waits for the request any more. An active request's server will not answer it any more, but for
-    /// responses that are on loan from it already. Looks in one place for the active request of a response on loan, takes O(log
-    /// servers) for an active request, and for a pending response a look at the sender of each server, also of one that left until
-    /// a creation takes it. Takes no memory. Replaces the `Drop` of iceoryx2's handles.
+    /// A request or a response on loan is released without being sent. A pending response takes the queued responses
+    /// on its channel with it, and nobody waits for the request any more. An active request's server no longer
+    /// answers it, except with responses that are on loan already. Reads one place for the active request of a
+    /// response on loan, takes O(log servers) for an active request, and polls the sender of each server for a
+    /// pending response, including those of servers that left, until a creation reuses them. Takes no memory.
+    /// Replaces the `Drop` of iceoryx2's handles.
     #[inline(always)]
     pub fn release(&mut self, id: &HandleId)
         requires { IsSome (handle_at self.old id.now) }
@@ -63,7 +65,7 @@ impl<QB: Body, QH: Default + Drop, PB: Body, PH: Default + Drop, K: Backpressure
         release_at(&mut self.parts, id.number(), place);
     }
 
-    /// Releases a pending response, as `release` does, without a look at what it is. Replaces the `Drop` of iceoryx2's
+    /// Releases a pending response, as `release` does, without reading its kind. Replaces the `Drop` of iceoryx2's
     /// `PendingResponse`.
     #[inline(always)]
     pub fn release_pending(&mut self, id: &HandleId)
@@ -79,7 +81,7 @@ impl<QB: Body, QH: Default + Drop, PB: Body, PH: Default + Drop, K: Backpressure
         }
     }
 
-    /// Releases an active request, as `release` does, without a look at what it is. Replaces the `Drop` of iceoryx2's
+    /// Releases an active request, as `release` does, without reading its kind. Replaces the `Drop` of iceoryx2's
     /// `ActiveRequest`.
     #[inline(always)]
     pub fn release_active(&mut self, id: &HandleId)
@@ -95,8 +97,8 @@ impl<QB: Body, QH: Default + Drop, PB: Body, PH: Default + Drop, K: Backpressure
         }
     }
 
-    /// Releases a response that was received, as `release` does, without a look at what it is. Replaces the `Drop` of iceoryx2's
-    /// `Response`.
+    /// Releases a response that was received, as `release` does, without reading its kind. Replaces the `Drop` of
+    /// iceoryx2's `Response`.
     #[inline(always)]
     pub fn release_response(&mut self, id: &HandleId)
         requires { kind_at self.old id.now ≡ Some kind.Response }
@@ -111,22 +113,24 @@ impl<QB: Body, QH: Default + Drop, PB: Body, PH: Default + Drop, K: Backpressure
         }
     }
 
-    /// Releases a request on loan, as `release` does, without a look at what it is. Replaces the `Drop` of iceoryx2's
+    /// Releases a request on loan, as `release` does, without reading its kind. Replaces the `Drop` of iceoryx2's
     /// `RequestMutUninit` and `RequestMut`.
     #[inline(always)]
     pub fn release_request(&mut self, id: &HandleId)
-        requires { (kind_at self.old id.now ≡ Some kind.RequestMutUninit) ⊎ (kind_at self.old id.now ≡ Some kind.RequestMut) }
+        requires { (kind_at self.old id.now ≡ Some kind.RequestMutUninit)
+            ⊎ (kind_at self.old id.now ≡ Some kind.RequestMut) }
         ensures { self.new ≡ after_release self.old id.now }
     {
         let place = self.parts.locate(id);
         release_request_at(&mut self.parts, id.number(), place);
     }
 
-    /// Releases a response on loan, as `release` does, without a look at what it is. Replaces the `Drop` of iceoryx2's
+    /// Releases a response on loan, as `release` does, without reading its kind. Replaces the `Drop` of iceoryx2's
     /// `ResponseMutUninit` and `ResponseMut`.
     #[inline(always)]
     pub fn release_response_loan(&mut self, id: &HandleId)
-        requires { (kind_at self.old id.now ≡ Some kind.ResponseMutUninit) ⊎ (kind_at self.old id.now ≡ Some kind.ResponseMut) }
+        requires { (kind_at self.old id.now ≡ Some kind.ResponseMutUninit)
+            ⊎ (kind_at self.old id.now ≡ Some kind.ResponseMut) }
         ensures { self.new ≡ after_release self.old id.now }
     {
         let place = self.parts.locate(id);
@@ -141,15 +145,18 @@ impl<QB: Body, QH: Default + Drop, T: Drop, PH: Default + Drop, K: BackpressureF
     PH,
     K,
 > {
-    /// Releases a response of one element that was received, as `release_response` does, and returns what it has. Not in iceoryx2.
+    /// Releases a response of one element that was received, as `release_response` does, and returns its element. Not
+    /// in iceoryx2.
     #[inline(always)]
     pub fn take_response(&mut self, id: &HandleId) -> Option<T>
         requires { kind_at self.old id.now ≡ Some kind.Response }
         ensures released { self.new ≡ after_release self.old id.now }
-        ensures asked { IsSomeAnd (option_and_then response_in (handle_at self.old id.now)) (λ m. 1 ≡ m.content.asked_len) }
-        ensures elements { IsSomeAnd (option_and_then response_in (handle_at self.old id.now)) (λ m. option_elements result ≡ m.content.elements) }
+        ensures asked { IsSomeAnd (option_and_then response_in (handle_at self.old id.now))
+            (λ m. 1 ≡ m.content.asked_len) }
+        ensures elements { IsSomeAnd (option_and_then response_in (handle_at self.old id.now))
+            (λ m. option_elements result ≡ m.content.elements) }
 
-        // What was received is complete.
+        // A received message is complete.
         ensures complete { IsSomeAnd (handle_at self.old id.now) HasComplete }
     {
         let place = id.place();

@@ -21,15 +21,16 @@ impl<QB: Body, QH: Default + Drop, PB: Body, PH: Default + Drop, K: Backpressure
     PH,
     K,
 > {
-    /// Sends a request to every connected server, and returns how many queues took it. The request is a pending response from
-    /// then on, and keeps its number. Takes O(servers), and O(log clients) where a queue is full and may not overflow.
-    /// Takes no memory. After iceoryx2's `RequestMut::send`.
+    /// Sends a request to every connected server, and returns how many queues took it. The request becomes a pending
+    /// response, under the same number. Takes O(servers), and O(log clients) where a queue is full and may not
+    /// overflow. Takes no memory. After iceoryx2's `RequestMut::send`.
     ///
     /// # Errors
     ///
-    /// An error releases the request, and no queue has it: each answer about a full queue comes before the first delivery.
-    /// - `ExceedsMaxActiveRequests` if the client has as many pending responses as it may.
-    /// - `SendError(UnableToDeliver)` if the queue to some server is full, may not overflow, and is not passed over.
+    /// An error releases the request, and no queue has it: each answer about a full queue comes before the first
+    /// delivery.
+    /// - `ExceedsMaxActiveRequests` if the client has its maximum of pending responses.
+    /// - `SendError(UnableToDeliver)` if the queue to some server is full, may not overflow, and is not skipped.
     #[inline(always)]
     pub fn send_request(&mut self, id: &HandleId) -> Result<usize, RequestSendError>
         requires { kind_at self.old id.now ≡ Some kind.RequestMut }
@@ -44,15 +45,15 @@ impl<QB: Body, QH: Default + Drop, PB: Body, PH: Default + Drop, K: Backpressure
         }
     }
 
-    /// Sends a response to its request, if that is still a pending response of a connected client, and releases the handle.
-    /// Else releases the response alone. Looks for the request and for the active request in one place each, and at one queue;
-    /// takes O(log servers) where that is full and may not overflow. Takes no memory. After iceoryx2's
+    /// Sends a response to its request, if that is still pending at a connected client, and releases the handle.
+    /// Otherwise the response is only released. Reads one place each for the request and the active request, and one
+    /// queue; takes O(log servers) if that queue is full and may not overflow. Takes no memory. After iceoryx2's
     /// `ResponseMut::send`.
     ///
     /// # Errors
     ///
-    /// - `UnableToDeliver` if the queue to the client's channel is full, may not overflow, and is not passed over. The response
-    ///   is released, and the queue stays.
+    /// - `UnableToDeliver` if the queue to the client's channel is full, may not overflow, and is not skipped. The
+    ///   response is released, and the queue is unchanged.
     #[inline(always)]
     pub fn send_response(&mut self, id: &HandleId) -> Result<(), SendError>
         requires { kind_at self.old id.now ≡ Some kind.ResponseMut }
@@ -66,7 +67,7 @@ impl<QB: Body, QH: Default + Drop, PB: Body, PH: Default + Drop, K: Backpressure
         }
     }
 
-    /// Sends a response whose handle doesn't stand where its id says. Walks over the table.
+    /// Sends a response whose handle is not in the place of its id. Searches the table.
     #[cold]
     fn send_response_far(&mut self, id: &HandleId) -> Result<(), SendError>
         requires { kind_at self.old id.now ≡ Some kind.ResponseMut }
@@ -84,8 +85,9 @@ impl<QB: WriteBody, QH: Default + Drop, PB: Body, PH: Default + Drop, K: Backpre
     PH,
     K,
 > {
-    /// Loans a request of one element, writes the element and sends it, as `loan_request`, `write_request` and `send_request` do one
-    /// after another. Its handle is made once, as a pending response. Takes no memory. After iceoryx2's `Client::send_copy`.
+    /// Loans a request of one element, writes the element and sends it, as `loan_request`, `write_request` and
+    /// `send_request` do in sequence. Makes its handle only once, as a pending response. Takes no memory. After
+    /// iceoryx2's `Client::send_copy`.
     ///
     /// # Errors
     ///
@@ -114,8 +116,9 @@ impl<QB: Body, QH: Default + Drop, PB: WriteBody, PH: Default + Drop, K: Backpre
     PH,
     K,
 > {
-    /// Loans a response of one element, writes the element and sends it, as `loan_response`, `write_response` and `send_response` do
-    /// one after another. The response gets no handle. Takes no memory. After iceoryx2's `ActiveRequest::send_copy`.
+    /// Loans a response of one element, writes the element and sends it, as `loan_response`, `write_response` and
+    /// `send_response` do in sequence. The response gets no handle. Takes no memory. After iceoryx2's
+    /// `ActiveRequest::send_copy`.
     ///
     /// # Errors
     ///

@@ -1,4 +1,4 @@
-//! What a core tells of its own settings, and of those of its ports.
+//! Queries of the settings of a core, and of its ports.
 ghost use Rattle.std.specs.Prelude.{◌≡◌, Some, None, IsSomeAnd};
 ghost use Rattle.rr_protocol.specs.Limits.{hub_refusal};
 ghost use Rattle.rr_protocol.specs.Queries.{kind_at};
@@ -45,8 +45,8 @@ impl<QB: Body, QH: Default + Drop, PB: Body, PH: Default + Drop, K: Backpressure
         self.parts.clients.port(index).port.strategy
     }
 
-    /// Returns for how many elements each slot of a client whose value lives has room from the start, in O(log clients).
-    /// After iceoryx2's `Client::initial_max_slice_len`.
+    /// Returns for how many elements each slot of a client whose value lives has room from the start, in O(log
+    /// clients). After iceoryx2's `Client::initial_max_slice_len`.
     #[inline(always)]
     pub fn client_initial_max_slice_len(&self, client: u64) -> usize
         requires { kind_at self.now client ≡ Some Kind.Client }
@@ -70,8 +70,8 @@ impl<QB: Body, QH: Default + Drop, PB: Body, PH: Default + Drop, K: Backpressure
         self.parts.servers.port(index).port.strategy
     }
 
-    /// Returns for how many elements each slot of a server whose value lives has room from the start, in O(log servers).
-    /// After iceoryx2's `Server::initial_max_slice_len`.
+    /// Returns for how many elements each slot of a server whose value lives has room from the start, in O(log
+    /// servers). After iceoryx2's `Server::initial_max_slice_len`.
     #[inline(always)]
     pub fn server_initial_max_slice_len(&self, server: u64) -> usize
         requires { kind_at self.now server ≡ Some Kind.Server }

@@ -1,4 +1,4 @@
-//! What a hub's core keeps, and what contracts see of it.
+//! The core of a hub, and its state as contracts see it.
 use rr_protocol::BackpressureFn;
 use rr_slots::Body;
 use rr_store::Store;
@@ -7,8 +7,8 @@ use std::marker::Model;
 
 /// All ports, handles and messages of a service. Contracts see the state of the message machine.
 ///
-/// A message stands once, in a slot of the sender of the port that sends it. A handle is an entry of the table, under its
-/// number; it names its message by sender and slot, as entries of queues do by slot.
+/// A message is in one slot only, of the sender of the port that sends it. A handle is an entry of the table, under
+/// its number; it names its message by sender and slot, as entries of queues do by slot.
 #[derive(Drop)]
 pub struct Core<QB: Body, QH: Default + Drop, PB: Body, PH: Default + Drop, K: BackpressureFn> {
     pub(crate) alloc: Global,

@@ -22,12 +22,13 @@ impl<QB: Body, QH: Default + Drop, PB: Body, PH: Default + Drop, K: Backpressure
     PH,
     K,
 > {
-    /// Makes a message that is being written, and complete, one that can be sent.
+    /// Makes a message with a complete body ready to send.
     ///
     /// After iceoryx2's `RequestMutUninit::assume_init` and `ResponseMutUninit::assume_init`.
     #[inline(always)]
     pub fn assume_init(&mut self, id: &HandleId)
-        requires uninit { (kind_at self.old id.now ≡ Some Kind.RequestMutUninit) ⊎ (kind_at self.old id.now ≡ Some Kind.ResponseMutUninit) }
+        requires uninit { (kind_at self.old id.now ≡ Some Kind.RequestMutUninit)
+            ⊎ (kind_at self.old id.now ≡ Some Kind.ResponseMutUninit) }
         requires complete { IsSomeAnd (handle_at self.old id.now) (λ handle. is_ready handle ≡ true) }
         ensures { self.new ≡ with_changed self.old id.now after_init }
     {
@@ -35,7 +36,8 @@ impl<QB: Body, QH: Default + Drop, PB: Body, PH: Default + Drop, K: Backpressure
         assume_init_at(&mut self.parts, id.number(), place);
     }
 
-    /// Sets the hint of a pending response that its client wants no more responses. Whether a hint was set before is not told.
+    /// Sets the disconnect hint of a pending response: its client asks for no further responses. Doesn't return
+    /// whether the hint was set before.
     ///
     /// After iceoryx2's `PendingResponse::set_disconnect_hint`.
     #[inline(always)]

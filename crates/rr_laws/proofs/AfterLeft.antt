@@ -17,8 +17,8 @@ use Rattle.rr_protocol.specs.Releases.{outdated_senders, kept_senders, has_respo
 use Rattle.rr_protocol.proofs.KeyLaws.{request_keys_total, request_keys_exact, response_keys_total, response_keys_exact}
 use Rattle.rr_protocol.proofs.ListsLaws.{at-with_at, at-retain_keys}
 use Rattle.rr_laws.specs.Reached.{has_client, has_server}
-use Rattle.rr_map_laws.proofs.ListFacts.{any-map, any_found}
-use Rattle.rr_map_laws.proofs.MapFacts.{itself}
+use Rattle.rr_table.proofs.ListFacts.{any-map, any_found}
+use Rattle.rr_table.proofs.MapFacts.{itself}
 use Rattle.rr_laws.proofs.Counts.{and_first, and_second}
 use Rattle.rr_laws.proofs.ExpiredLists.{at-with_at-other, filled_stays}
 

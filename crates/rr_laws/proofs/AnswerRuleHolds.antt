@@ -5,8 +5,8 @@ use Rattle.rr_protocol.specs.declared.limits.Limits.{Limits}
 use Rattle.rr_protocol.specs.declared.settings.BackpressureAction.{BackpressureAction}
 use Rattle.rr_protocol.specs.Limits.{hub_refusal}
 use Rattle.rr_protocol.specs.State.{State, empty_hub}
-use Rattle.rr_commands.specs.Run.{Run}
-use Rattle.rr_commands.specs.AnswerRule.{Event, ReceivesWithoutGap, ReceivesAll, KeepsAnswerRule}
+use Rattle.rr_protocol.specs.Run.{Run}
+use Rattle.rr_protocol.specs.AnswerRule.{Event, ReceivesWithoutGap, ReceivesAll, KeepsAnswerRule}
 use Rattle.rr_laws.specs.Following.{Follows}
 use Rattle.rr_laws.specs.Completing.{Completes}
 use Rattle.rr_laws.specs.Left.{IsLeftFit}

@@ -4,8 +4,8 @@ use Rattle.std.specs.Prelude.{count_by}
 use Rattle.std.specs.List.{AllByRecursion}
 use Rattle.std.specs.FinMap.{get, insert, remove}
 use Rattle.std.proofs.lemmas.Bool.{cases_eq, eqb-true}
-use Rattle.rr_map_laws.specs.Maps.{mark}
-use Rattle.rr_map_laws.proofs.MapLaws.{get-insert_other, get-remove_same, get-remove_other}
+use Rattle.rr_table.specs.Maps.{mark}
+use Rattle.rr_table.proofs.MapLaws.{get-insert_other, get-remove_same, get-remove_other}
 use Rattle.rr_protocol.specs.declared.limits.Limits.{Limits}
 use Rattle.rr_protocol.specs.Lists.{Lists, at}
 use Rattle.rr_protocol.specs.Keys.{ResponseKey, response_key_cmp}
@@ -14,7 +14,7 @@ use Rattle.rr_protocol.specs.Ports.{Client, Server}
 use Rattle.rr_laws.specs.Roles.{Question, Role, Roles, asking, asking_at}
 use Rattle.rr_laws.specs.Reached.{ResponseFits, ResponsesFit}
 use Rattle.rr_laws.specs.Apart.{ChannelsApart, standing, ResponsesApart, AreApart}
-use Rattle.rr_map_laws.proofs.Counting.{count-cons}
+use Rattle.rr_table.proofs.Counting.{count-cons}
 use Rattle.rr_laws.proofs.Staying.{Shrinks, asking_stays_with, asking_stays_without}
 
 -- no request is asked for that was not

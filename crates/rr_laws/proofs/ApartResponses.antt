@@ -6,8 +6,8 @@ use Rattle.std.specs.declared.cmp.Ordering.TheVariants.{Less, Equal, Greater}
 use Rattle.std.specs.Ordering.{is_eq}
 use Rattle.std.specs.FinMap.{get, insert, remove}
 use Rattle.std.proofs.lemmas.Bool.{cases_eq, ne_eqb, eq-eqb}
-use Rattle.rr_map_laws.specs.Maps.{mark}
-use Rattle.rr_map_laws.proofs.MapLaws.{get-insert_other, get-remove_same, get-remove_other}
+use Rattle.rr_table.specs.Maps.{mark}
+use Rattle.rr_table.proofs.MapLaws.{get-insert_other, get-remove_same, get-remove_other}
 use Rattle.rr_protocol.specs.Lists.{Lists, at, with_at}
 use Rattle.rr_protocol.specs.Keys.{ResponseKey, response_key_cmp}
 use Rattle.rr_protocol.specs.Messages.{ResponseMessage}
@@ -16,8 +16,8 @@ use Rattle.rr_protocol.proofs.KeyLaws.{response_keys_total, response_keys_exact}
 use Rattle.rr_protocol.proofs.ListsLaws.{at-with_at}
 use Rattle.rr_laws.specs.Roles.{Role, Roles}
 use Rattle.rr_laws.specs.Apart.{standing, ResponsesApart}
-use Rattle.rr_map_laws.proofs.Counting.{count-cons, count-append}
-use Rattle.rr_map_laws.proofs.MapFacts.{itself}
+use Rattle.rr_table.proofs.Counting.{count-cons, count-append}
+use Rattle.rr_table.proofs.MapFacts.{itself}
 use Rattle.rr_laws.proofs.Putting.{shrinks_taken}
 use Rattle.rr_laws.proofs.Apart.{count-drop, standing_shrinks}
 

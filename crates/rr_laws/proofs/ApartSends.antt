@@ -5,7 +5,7 @@ use Rattle.std.specs.List.{list_any}
 use Rattle.std.specs.Option.{option_map_or}
 use Rattle.std.specs.FinMap.{get, insert, remove, entries}
 use Rattle.std.proofs.lemmas.Bool.{cases_eq, eq-eqb}
-use Rattle.rr_map_laws.proofs.MapLaws.{get-insert_same, get-insert_other}
+use Rattle.rr_table.proofs.MapLaws.{get-insert_same, get-insert_other}
 use Rattle.rr_protocol.specs.declared.settings.BackpressureAction.{BackpressureAction}
 use Rattle.rr_protocol.specs.declared.error.LoanError.{LoanError}
 use Rattle.rr_protocol.specs.declared.error.RequestSendError.{RequestSendError}
@@ -22,8 +22,8 @@ use Rattle.rr_protocol.specs.Releases.{without_unused_port, without_port_value, 
 use Rattle.rr_laws.specs.Roles.{Question, Role, LoanedRequest, SentRequest, LoanedResponse, Roles, role_of, roles_of, question_of, answer_of, asking, asking_at}
 use Rattle.rr_laws.specs.Reached.{IsReached}
 use Rattle.rr_laws.specs.Apart.{ResponsesApart, AreApart, IsApart}
-use Rattle.rr_map_laws.proofs.ListFacts.{any-map}
-use Rattle.rr_map_laws.proofs.MapFacts.{any_value}
+use Rattle.rr_table.proofs.ListFacts.{any-map}
+use Rattle.rr_table.proofs.MapFacts.{any_value}
 use Rattle.rr_laws.proofs.LiveRequests.{both_true}
 use Rattle.rr_laws.proofs.RoleLaws.{role_at, handle_of, roles-insert, roles-remove}
 use Rattle.rr_laws.proofs.Opening.{some_and, open_request_mut, open_response_mut, open_active}

@@ -4,7 +4,7 @@ use Rattle.std.specs.Prelude.{count_by}
 use Rattle.std.specs.Ordering.{nat_cmp}
 use Rattle.std.specs.FinMap.{get-empty}
 use Rattle.rr_slots.specs.declared.family.Family.{Family}
-use Rattle.rr_map_laws.proofs.MapLaws.{map_values-empty}
+use Rattle.rr_table.proofs.MapLaws.{map_values-empty}
 use Rattle.rr_protocol.specs.declared.limits.Limits.{Limits}
 use Rattle.rr_protocol.specs.declared.settings.BackpressureAction.{BackpressureAction}
 use Rattle.rr_protocol.specs.declared.settings.ClientSettings.{ClientSettings}
@@ -19,10 +19,10 @@ use Rattle.rr_protocol.specs.Writing.{with_elements, with_request_content, with_
 use Rattle.rr_protocol.specs.State.{State, empty_hub}
 use Rattle.rr_protocol.specs.Creation.{CreatesClient, CreatesServer}
 use Rattle.rr_protocol.proofs.ListsLaws.{at-no_lists}
-use Rattle.rr_commands.specs.declared.command.Command.{Command}
-use Rattle.rr_commands.specs.declared.reply.Reply.{Reply}
-use Rattle.rr_commands.specs.Step.{with_content, with_complete, Step}
-use Rattle.rr_commands.specs.Run.{Run}
+use Rattle.rr_protocol.specs.declared.command.Command.{Command}
+use Rattle.rr_protocol.specs.declared.reply.Reply.{Reply}
+use Rattle.rr_protocol.specs.Step.{with_content, with_complete, Step}
+use Rattle.rr_protocol.specs.Run.{Run}
 use Rattle.rr_laws.specs.Roles.{role_of, asking}
 use Rattle.rr_laws.specs.Reached.{IsReached}
 use Rattle.rr_laws.specs.Apart.{standing, AreApart, IsApart}

@@ -3,8 +3,8 @@ use Rattle.std.proofs.Common.{◌≡◌, ℕ, suc, zero, ◌+◌, ◌<◌, ◌�
 use Rattle.std.specs.Prelude.{◌⊎◌, ◌||◌, count_by}
 use Rattle.std.specs.List.{list_any}
 use Rattle.std.proofs.lemmas.Bool.{eq-eqb, ne_eqb, cases_eq}
-use Rattle.rr_map_laws.specs.Maps.{mark}
-use Rattle.rr_map_laws.proofs.Counting.{count-cons}
+use Rattle.rr_table.specs.Maps.{mark}
+use Rattle.rr_table.proofs.Counting.{count-cons}
 
 -- the numbers below another
 unfoldable pub all_below : ℕ → List ℕ

@@ -9,8 +9,8 @@ use Rattle.std.proofs.lemmas.List.{length-map}
 use Rattle.std.proofs.lemmas.List.Sums.{length-filter}
 use Rattle.rr_protocol.specs.Lists.{Lists, list_of, at, all_elements}
 use Rattle.rr_protocol.specs.Counts.{distinct_count}
-use Rattle.rr_map_laws.proofs.MapFacts.{all_entries}
-use Rattle.rr_map_laws.proofs.Counting.{count-append, count-flat_map}
+use Rattle.rr_table.proofs.MapFacts.{all_entries}
+use Rattle.rr_table.proofs.Counting.{count-append, count-flat_map}
 
 -- no list has more different numbers than numbers
 pub distinct_count_le : (ns : List ℕ) → distinct_count ns ≤ length ns

@@ -4,7 +4,7 @@ use Rattle.std.specs.Prelude.{IsSomeAnd}
 use Rattle.rr_protocol.specs.Messages.{Content, Handle, RequestMutUninit, RequestMut, PendingResponse, ActiveRequest, ResponseMutUninit, ResponseMut, Response, with_hint}
 use Rattle.rr_protocol.specs.Writing.{with_elements, with_request_content, with_response_content, after_init}
 use Rattle.rr_protocol.specs.State.{State, with_changed}
-use Rattle.rr_commands.specs.Step.{with_content, with_complete}
+use Rattle.rr_protocol.specs.Step.{with_content, with_complete}
 use Rattle.rr_laws.specs.Roles.{role_of}
 use Rattle.rr_laws.specs.Reached.{Fits, IsReached}
 use Rattle.rr_laws.proofs.RoleLaws.{roles-changed}

@@ -5,8 +5,8 @@ use Rattle.std.specs.Option.{option_map_or}
 use Rattle.std.specs.Ordering.{nat_cmp}
 use Rattle.std.specs.FinMap.{FinMap, insert, remove}
 use Rattle.std.proofs.lemmas.List.{length-set}
-use Rattle.rr_map_laws.proofs.MapLaws.{get-insert_cases, get-remove_cases}
-use Rattle.rr_map_laws.proofs.ListFacts.{all_drop}
+use Rattle.rr_table.proofs.MapLaws.{get-insert_cases, get-remove_cases}
+use Rattle.rr_table.proofs.ListFacts.{all_drop}
 use Rattle.rr_protocol.specs.Lists.{Lists}
 use Rattle.rr_protocol.specs.Keys.{request_key_cmp, response_key_cmp}
 use Rattle.rr_protocol.specs.Messages.{Content, RequestMessage, ResponseMessage, Handle, RequestMutUninit, RequestMut, PendingResponse, ActiveRequest, ResponseMutUninit, ResponseMut, Response, with_hint}

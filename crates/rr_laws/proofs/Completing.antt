@@ -6,7 +6,7 @@ use Rattle.std.proofs.lemmas.List.{append-nil}
 use Rattle.std.proofs.lemmas.List.Folds.{list_any-append}
 use Rattle.rr_protocol.specs.Ports.{Server}
 use Rattle.rr_protocol.specs.State.{State, server_at, is_server_value}
-use Rattle.rr_commands.specs.AnswerRule.{Event, IsSubsequence, IsPrefix, is_active_of, sent_by, received_by, lender_of, creates_waiting, is_release, is_answer, sent_for, received_from}
+use Rattle.rr_protocol.specs.AnswerRule.{Event, IsSubsequence, IsPrefix, is_active_of, sent_by, received_by, lender_of, creates_waiting, is_release, is_answer, sent_for, received_from}
 use Rattle.rr_laws.specs.Reached.{IsReached}
 use Rattle.rr_laws.specs.Following.{queued, WasReceived, Follows}
 use Rattle.rr_laws.specs.Settling.{IsServing, IsNew, IsWaiting, Settles}

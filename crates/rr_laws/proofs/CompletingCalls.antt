@@ -13,10 +13,10 @@ use Rattle.rr_protocol.specs.Loans.{LoansRequest, LoansResponse}
 use Rattle.rr_protocol.specs.Sends.{SendsResponse}
 use Rattle.rr_protocol.specs.Receives.{ReceivesRequest, ReceivesResponse}
 use Rattle.rr_protocol.specs.Releases.{after_release}
-use Rattle.rr_commands.specs.declared.command.Command.{Command}
-use Rattle.rr_commands.specs.declared.reply.Reply.{Reply}
-use Rattle.rr_commands.specs.Step.{server_settings}
-use Rattle.rr_commands.specs.AnswerRule.{Event, creates_waiting}
+use Rattle.rr_protocol.specs.declared.command.Command.{Command}
+use Rattle.rr_protocol.specs.declared.reply.Reply.{Reply}
+use Rattle.rr_protocol.specs.Step.{server_settings}
+use Rattle.rr_protocol.specs.AnswerRule.{Event, creates_waiting}
 use Rattle.rr_laws.specs.Apart.{IsApart}
 use Rattle.rr_laws.specs.Following.{queued, MovesQuietly, Follows}
 use Rattle.rr_laws.specs.Settling.{IsNew, Settles}

@@ -6,9 +6,9 @@ use Rattle.std.proofs.lemmas.Bool.{cases_eq}
 use Rattle.std.proofs.lemmas.List.{append-nil}
 use Rattle.rr_protocol.specs.Ports.{Server}
 use Rattle.rr_protocol.specs.State.{State, server_at, is_server_value}
-use Rattle.rr_commands.specs.declared.command.Command.{Command}
-use Rattle.rr_commands.specs.declared.reply.Reply.{Reply}
-use Rattle.rr_commands.specs.AnswerRule.{Event, IsPrefix, is_active_of, sent_by, received_by, creates_waiting, is_release, is_answer, sent_for, received_from}
+use Rattle.rr_protocol.specs.declared.command.Command.{Command}
+use Rattle.rr_protocol.specs.declared.reply.Reply.{Reply}
+use Rattle.rr_protocol.specs.AnswerRule.{Event, IsPrefix, is_active_of, sent_by, received_by, creates_waiting, is_release, is_answer, sent_for, received_from}
 use Rattle.rr_laws.specs.Reached.{IsReached}
 use Rattle.rr_laws.specs.Following.{queued, Moves, WasSent, Follows}
 use Rattle.rr_laws.specs.Settling.{IsServing, IsNew, IsWaiting, Settles}

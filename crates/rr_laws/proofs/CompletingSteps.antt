@@ -12,11 +12,11 @@ use Rattle.rr_protocol.specs.Ports.{Server}
 use Rattle.rr_protocol.specs.State.{State, client_at, handle_at}
 use Rattle.rr_protocol.specs.Loans.{LoansRequest, LoansResponse}
 use Rattle.rr_protocol.specs.Sends.{SendsRequest, SendsResponse}
-use Rattle.rr_commands.specs.declared.command.Command.{Command}
-use Rattle.rr_commands.specs.declared.reply.Reply.{Reply}
-use Rattle.rr_commands.specs.Refusals.{refusal}
-use Rattle.rr_commands.specs.Step.{client_settings, with_complete, Loans, Acts, Step}
-use Rattle.rr_commands.specs.AnswerRule.{Event, creates_waiting}
+use Rattle.rr_protocol.specs.declared.command.Command.{Command}
+use Rattle.rr_protocol.specs.declared.reply.Reply.{Reply}
+use Rattle.rr_protocol.specs.Refusals.{refusal}
+use Rattle.rr_protocol.specs.Step.{client_settings, with_complete, Loans, Acts, Step}
+use Rattle.rr_protocol.specs.AnswerRule.{Event, creates_waiting}
 use Rattle.rr_laws.specs.Reached.{IsReached}
 use Rattle.rr_laws.specs.Apart.{IsApart}
 use Rattle.rr_laws.specs.Left.{IsLeftFit}

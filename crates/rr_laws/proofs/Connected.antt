@@ -11,7 +11,7 @@ use Rattle.rr_protocol.specs.Messages.{RequestMessage, ResponseMessage}
 use Rattle.rr_protocol.specs.Ports.{Client, Server}
 use Rattle.rr_laws.specs.Roles.{Role, LoanedRequest, SentRequest, ReceivedRequest, LoanedResponse, ReceivedResponse, Roles}
 use Rattle.rr_laws.specs.Reached.{has_client, has_server, is_port, has_port, PortsFit, HandlesFit, RequestFits, RequestsFit, ResponsesFit}
-use Rattle.rr_map_laws.proofs.ListFacts.{all_each, all_found, passes_found, find-append, find-gone, find-changed}
+use Rattle.rr_table.proofs.ListFacts.{all_each, all_found, passes_found, find-append, find-gone, find-changed}
 
 module _ {X : Type 0} (id : X → ℕ) where
   -- who was there is there after one more came

@@ -3,7 +3,7 @@ use Rattle.std.proofs.Common.{◌≡◌, ℕ, ◌+◌, ◌<◌, ◌≤◌, Bool,
 use Rattle.std.specs.Prelude.{find}
 use Rattle.std.specs.FinMap.{insert, remove}
 use Rattle.std.proofs.lemmas.Bool.{eqb-true}
-use Rattle.rr_map_laws.specs.Maps.{mark, tally}
+use Rattle.rr_table.specs.Maps.{mark, tally}
 use Rattle.rr_protocol.specs.declared.limits.Limits.{Limits}
 use Rattle.rr_protocol.specs.Limits.{max_loaned_responses}
 use Rattle.rr_protocol.specs.Keys.{RequestKey, ResponseKey, request_key}

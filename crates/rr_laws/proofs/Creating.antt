@@ -8,8 +8,8 @@ use Rattle.rr_protocol.specs.declared.error.ClientCreateError.{ClientCreateError
 use Rattle.rr_protocol.specs.declared.error.ServerCreateError.{ServerCreateError}
 use Rattle.std.proofs.lemmas.List.{length-append}
 use Rattle.std.proofs.lemmas.Bool.{eqb-true, ne_eqb}
-use Rattle.rr_map_laws.specs.Maps.{tally}
-use Rattle.rr_map_laws.proofs.MapLaws.{tally-empty, map_values-empty}
+use Rattle.rr_table.specs.Maps.{tally}
+use Rattle.rr_table.proofs.MapLaws.{tally-empty, map_values-empty}
 use Rattle.rr_protocol.specs.declared.limits.Limits.{Limits}
 use Rattle.rr_protocol.specs.declared.settings.ClientSettings.{ClientSettings}
 use Rattle.rr_protocol.specs.declared.settings.ServerSettings.{ServerSettings}
@@ -21,9 +21,9 @@ use Rattle.rr_protocol.specs.Creation.{pool_size_of, loans_of, client_refusal, w
 use Rattle.rr_protocol.proofs.ListsLaws.{at-no_lists}
 use Rattle.rr_laws.specs.Roles.{Role, LoanedRequest, SentRequest, ReceivedRequest, LoanedResponse, ReceivedResponse, role_of, roles_of, loans_response}
 use Rattle.rr_laws.specs.Reached.{has_port, Fits, IsReached}
-use Rattle.rr_map_laws.proofs.ListFacts.{all_append, find-append}
-use Rattle.rr_map_laws.proofs.MapFacts.{all_entries}
-use Rattle.rr_map_laws.proofs.Counting.{count-none}
+use Rattle.rr_table.proofs.ListFacts.{all_append, find-append}
+use Rattle.rr_table.proofs.MapFacts.{all_entries}
+use Rattle.rr_table.proofs.Counting.{count-none}
 use Rattle.rr_laws.proofs.Staying.{role_stays, requests_stay, responses_stay, ports_with_more}
 use Rattle.rr_laws.proofs.Connected.{has-append, hasn't-append, has_below, port_number, port_stays, no_port_stays, NoPortComes, handles_with_ports, responses_with_ports, requests_with_servers}
 use Rattle.rr_laws.proofs.Tests.{not_due, below_of_test, positive}

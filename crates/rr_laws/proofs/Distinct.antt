@@ -4,7 +4,7 @@ use Rattle.std.specs.Prelude.{◌||◌, take, filter, nat_eq}
 use Rattle.std.specs.List.{AllByRecursion, list_any, IsDistinct}
 use Rattle.std.proofs.lemmas.List.{length-append, length-drop, map-append}
 use Rattle.rr_protocol.specs.Releases.{kept_senders}
-use Rattle.rr_map_laws.proofs.ListFacts.{all_append, all_drop, all_filter, all_map}
+use Rattle.rr_table.proofs.ListFacts.{all_append, all_drop, all_filter, all_map}
 
 module _ {X : Type 0} where
   -- what holds of any element holds of each

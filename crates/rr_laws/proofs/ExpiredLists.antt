@@ -18,8 +18,8 @@ use Rattle.rr_protocol.proofs.KeyLaws.{request_keys_total, request_keys_exact, r
 use Rattle.rr_protocol.proofs.ListsLaws.{at-with_at, at-retain_keys}
 use Rattle.rr_laws.specs.Reached.{has_client, has_server, is_port}
 use Rattle.rr_laws.specs.Expired.{SendersFit, ExpiredFit}
-use Rattle.rr_map_laws.proofs.ListFacts.{all_each, length-filter_le}
-use Rattle.rr_map_laws.proofs.MapFacts.{itself}
+use Rattle.rr_table.proofs.ListFacts.{all_each, length-filter_le}
+use Rattle.rr_table.proofs.MapFacts.{itself}
 use Rattle.rr_laws.proofs.Counts.{and_first, and_second}
 use Rattle.rr_laws.proofs.Filled.{same_key, filled_gives, filled_there}
 use Rattle.rr_laws.proofs.Putting.{each_list_with}

@@ -19,7 +19,7 @@ use Rattle.rr_protocol.proofs.KeyLaws.{request_keys_total, request_keys_exact, r
 use Rattle.rr_laws.specs.Reached.{has_client, has_server, is_port, IsReached}
 use Rattle.rr_laws.specs.Left.{IsLeftFit}
 use Rattle.rr_laws.specs.Expired.{SendersFit, ExpiredFit}
-use Rattle.rr_map_laws.proofs.ListFacts.{all_each, all_append, all_drop, all_map, each_found, find-append, find-gone}
+use Rattle.rr_table.proofs.ListFacts.{all_each, all_append, all_drop, all_map, each_found, find-append, find-gone}
 use Rattle.rr_laws.proofs.Connected.{not_both, no_port_at_next}
 use Rattle.rr_laws.proofs.Leaving.{or_no}
 use Rattle.rr_laws.proofs.Expiring.{clients_expired, servers_expired}

@@ -18,15 +18,15 @@ use Rattle.rr_protocol.specs.State.{State, empty_hub, handle_at, is_client_value
 use Rattle.rr_protocol.specs.Queries.{kind_of}
 use Rattle.rr_protocol.specs.Creation.{CreatesClient, CreatesServer}
 use Rattle.rr_protocol.proofs.ListsLaws.{at-no_lists}
-use Rattle.rr_commands.specs.declared.command.Command.{Command}
-use Rattle.rr_commands.specs.declared.reply.Reply.{Reply}
-use Rattle.rr_commands.specs.Refusals.{refusal_of_kind, refusal}
-use Rattle.rr_commands.specs.Step.{client_settings, server_settings, with_content, with_complete, Loans, Acts, Step}
-use Rattle.rr_commands.specs.Run.{Run}
+use Rattle.rr_protocol.specs.declared.command.Command.{Command}
+use Rattle.rr_protocol.specs.declared.reply.Reply.{Reply}
+use Rattle.rr_protocol.specs.Refusals.{refusal_of_kind, refusal}
+use Rattle.rr_protocol.specs.Step.{client_settings, server_settings, with_content, with_complete, Loans, Acts, Step}
+use Rattle.rr_protocol.specs.Run.{Run}
 use Rattle.rr_laws.specs.Reached.{has_client, has_server, is_port, IsReached}
 use Rattle.rr_laws.specs.Left.{IsLeftFit}
 use Rattle.rr_laws.specs.Expired.{SendersFit, ExpiredFit}
-use Rattle.rr_map_laws.proofs.ListFacts.{or_true}
+use Rattle.rr_table.proofs.ListFacts.{or_true}
 use Rattle.rr_laws.proofs.Opening.{some_and}
 use Rattle.rr_laws.proofs.Naming.{client_value_connected, server_value_connected}
 use Rattle.rr_laws.proofs.Creating.{empty_hub_reached}

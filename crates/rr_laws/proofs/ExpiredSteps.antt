@@ -26,7 +26,7 @@ use Rattle.rr_laws.specs.Roles.{Role, LoanedRequest, SentRequest, ReceivedReques
 use Rattle.rr_laws.specs.Reached.{has_client, has_server, is_port, has_port, IsReached}
 use Rattle.rr_laws.specs.Left.{IsLeftFit}
 use Rattle.rr_laws.specs.Expired.{ExpiredFit}
-use Rattle.rr_map_laws.proofs.ListFacts.{or_true}
+use Rattle.rr_table.proofs.ListFacts.{or_true}
 use Rattle.rr_laws.proofs.RoleLaws.{role_at}
 use Rattle.rr_laws.proofs.Opening.{some_and, open_request_mut, open_response_mut, open_active}
 use Rattle.rr_laws.proofs.Connected.{has-same, port_number}

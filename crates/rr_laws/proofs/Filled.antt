@@ -10,9 +10,9 @@ use Rattle.std.specs.FinMap.{IsAntisymmetric, entries, get, get-entries}
 use Rattle.std.specs.FinMap.Entries.{find}
 use Rattle.std.proofs.lemmas.Bool.{false≢true}
 use Rattle.rr_protocol.specs.Lists.{Lists, list_of, at, filled_keys}
-use Rattle.rr_map_laws.proofs.ListFacts.{any-map, or_true}
-use Rattle.rr_map_laws.proofs.MapFacts.{all_entries}
-use Rattle.rr_map_laws.proofs.Members.{any_of_all}
+use Rattle.rr_table.proofs.ListFacts.{any-map, or_true}
+use Rattle.rr_table.proofs.MapFacts.{all_entries}
+use Rattle.rr_table.proofs.Members.{any_of_all}
 
 module _ {A : Type 0} {cmp : A → A → Ordering} (exact : IsAntisymmetric cmp) where
   tied : (a b : A) (r : Ordering) → cmp a b ≡ r → is_eq r ≡ true → a ≡ b

@@ -6,9 +6,9 @@ use Rattle.std.specs.FinMap.{get}
 use Rattle.std.proofs.lemmas.Bool.{eq-eqb}
 use Rattle.std.proofs.lemmas.List.{append-nil}
 use Rattle.std.proofs.lemmas.List.Elements.{filter_map-append}
-use Rattle.rr_map_laws.proofs.ListFacts.{any_weaker}
+use Rattle.rr_table.proofs.ListFacts.{any_weaker}
 use Rattle.rr_protocol.specs.State.{State}
-use Rattle.rr_commands.specs.AnswerRule.{Event, IsSubsequence, occur_in_order, is_active, is_active_of, is_loan, is_response, received_by, lender_of, is_answer, sent_for, received_from}
+use Rattle.rr_protocol.specs.AnswerRule.{Event, IsSubsequence, occur_in_order, is_active, is_active_of, is_loan, is_response, received_by, lender_of, is_answer, sent_for, received_from}
 use Rattle.rr_laws.specs.Roles.{Question, Role, ReceivedRequest, LoanedResponse, Answer, roles_of}
 use Rattle.rr_laws.specs.Following.{queued, Moves, MovesQuietly, WasReceived, IsLoaned, LoanOccurs, WasSent, IsUnused, Follows}
 use Rattle.rr_laws.proofs.Occurring.{occurs_later, occurs_then, occurs_alone, subsequence_longer, subsequence_front}

@@ -13,9 +13,9 @@ use Rattle.rr_protocol.specs.Creation.{CreatesClient, CreatesServer}
 use Rattle.rr_protocol.specs.Loans.{LoansRequest, LoansResponse}
 use Rattle.rr_protocol.specs.Sends.{SendsResponse}
 use Rattle.rr_protocol.specs.Receives.{ReceivesResponse, ReceivesRequest}
-use Rattle.rr_commands.specs.declared.command.Command.{Command}
-use Rattle.rr_commands.specs.declared.reply.Reply.{Reply}
-use Rattle.rr_commands.specs.AnswerRule.{Event, is_active, is_loan, is_sent}
+use Rattle.rr_protocol.specs.declared.command.Command.{Command}
+use Rattle.rr_protocol.specs.declared.reply.Reply.{Reply}
+use Rattle.rr_protocol.specs.AnswerRule.{Event, is_active, is_loan, is_sent}
 use Rattle.rr_laws.specs.Roles.{role_of, answer_of}
 use Rattle.rr_laws.specs.Reached.{IsReached}
 use Rattle.rr_laws.specs.Apart.{IsApart}

@@ -5,11 +5,11 @@ use Rattle.std.specs.List.{AllByRecursion, cons_option}
 use Rattle.std.specs.FinMap.{get}
 use Rattle.std.proofs.lemmas.Bool.{cases_eq, eq-eqb, ne_eqb}
 use Rattle.std.proofs.lemmas.List.{append-nil}
-use Rattle.rr_map_laws.proofs.ListFacts.{all_append, all_drop}
+use Rattle.rr_table.proofs.ListFacts.{all_append, all_drop}
 use Rattle.rr_protocol.specs.State.{State}
-use Rattle.rr_commands.specs.declared.command.Command.{Command}
-use Rattle.rr_commands.specs.declared.reply.Reply.{Reply}
-use Rattle.rr_commands.specs.AnswerRule.{Event, IsSubsequence, is_answer, sent_for, received_from}
+use Rattle.rr_protocol.specs.declared.command.Command.{Command}
+use Rattle.rr_protocol.specs.declared.reply.Reply.{Reply}
+use Rattle.rr_protocol.specs.AnswerRule.{Event, IsSubsequence, is_answer, sent_for, received_from}
 use Rattle.rr_laws.specs.Roles.{Question, ReceivedRequest, LoanedResponse, Answer, roles_of}
 use Rattle.rr_laws.specs.Following.{queued, Moves, WasReceived, WasSent, Follows}
 use Rattle.rr_laws.proofs.Occurring.{subsequence_then, subsequence_of, subsequence_dropped}

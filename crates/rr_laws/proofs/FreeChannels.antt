@@ -8,8 +8,8 @@ use Rattle.std.specs.FinMap.{entries, get}
 use Rattle.std.proofs.lemmas.Bool.{eq-eqb, eqb-true}
 use Rattle.std.proofs.lemmas.List.Sums.{length-filter}
 use Rattle.std.proofs.lemmas.Map.Views.{any-filter_same}
-use Rattle.rr_map_laws.specs.Maps.{tally}
-use Rattle.rr_map_laws.proofs.MapLaws.{entries-map_values}
+use Rattle.rr_table.specs.Maps.{tally}
+use Rattle.rr_table.proofs.MapLaws.{entries-map_values}
 use Rattle.rr_protocol.specs.declared.error.LoanError.{LoanError}
 use Rattle.rr_protocol.specs.Lists.{all_elements}
 use Rattle.rr_protocol.specs.Messages.{RequestMessage, Handle, RequestMutUninit, RequestMut, PendingResponse, ActiveRequest, ResponseMutUninit, ResponseMut, Response, request_in}
@@ -19,14 +19,14 @@ use Rattle.rr_protocol.specs.Loans.{is_too_long}
 use Rattle.rr_laws.specs.Roles.{Role, LoanedRequest, SentRequest, ReceivedRequest, LoanedResponse, ReceivedResponse, role_of, roles_of, subject_of, number_of}
 use Rattle.rr_laws.specs.Reached.{IsReached}
 use Rattle.rr_laws.specs.Unreduced.{FindsChannel}
-use Rattle.rr_map_laws.proofs.MapFacts.{all_entries, one_entry, any_value}
-use Rattle.rr_map_laws.proofs.Counting.{count-bins}
+use Rattle.rr_table.proofs.MapFacts.{all_entries, one_entry, any_value}
+use Rattle.rr_table.proofs.Counting.{count-bins}
 use Rattle.rr_laws.proofs.RoleLaws.{handle_of}
 use Rattle.rr_laws.proofs.Counts.{and_first, and_second}
 use Rattle.rr_laws.proofs.Tests.{not_due, below_of_test}
 use Rattle.rr_laws.proofs.LiveRequests.{both_true}
 use Rattle.rr_laws.proofs.Bins.{all_of}
-use Rattle.rr_map_laws.proofs.ListFacts.{or_true, any-append, any-filter, any-map, any-filter_map}
+use Rattle.rr_table.proofs.ListFacts.{or_true, any-append, any-filter, any-map, any-filter_map}
 use Rattle.rr_laws.proofs.Below.{all_below, one_below, count-all, search_below}
 
 -- the different numbers of a list, each once

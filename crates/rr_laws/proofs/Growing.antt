@@ -7,11 +7,11 @@ use Rattle.std.proofs.lemmas.List.{append-nil}
 use Rattle.std.proofs.lemmas.List.Elements.{filter_map-append, filter-append}
 use Rattle.std.proofs.lemmas.List.Folds.{list_any-append}
 use Rattle.std.proofs.lemmas.Bool.{ltb-true, ltb-false}
-use Rattle.rr_map_laws.specs.Maps.{mark}
-use Rattle.rr_commands.specs.AnswerRule.{Event, is_active, is_active_of, is_loan, is_sent, is_sent_copy, is_response, sent_by, received_by, lender_of, is_answer, sent_for, received_from}
+use Rattle.rr_table.specs.Maps.{mark}
+use Rattle.rr_protocol.specs.AnswerRule.{Event, is_active, is_active_of, is_loan, is_sent, is_sent_copy, is_response, sent_by, received_by, lender_of, is_answer, sent_for, received_from}
 use Rattle.rr_laws.specs.Following.{WasReceived, IsLoaned, SendOccurs, WasSent, NumbersFit}
-use Rattle.rr_map_laws.proofs.ListFacts.{any-append, all_each}
-use Rattle.rr_map_laws.proofs.Counting.{count-cons, count-append}
+use Rattle.rr_table.proofs.ListFacts.{any-append, all_each}
+use Rattle.rr_table.proofs.Counting.{count-cons, count-append}
 use Rattle.rr_laws.proofs.Occurring.{false_is_true, occurs_later, filter_agree, any_agree, all_joined}
 use Rattle.rr_laws.proofs.Telling.{active_once}
 

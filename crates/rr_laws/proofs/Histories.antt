@@ -6,12 +6,12 @@ use Rattle.rr_protocol.specs.declared.limits.Limits.{Limits}
 use Rattle.rr_protocol.specs.declared.settings.BackpressureAction.{BackpressureAction}
 use Rattle.rr_protocol.specs.Limits.{hub_refusal}
 use Rattle.rr_protocol.specs.State.{State, empty_hub}
-use Rattle.rr_commands.specs.declared.command.Command.{Command}
-use Rattle.rr_commands.specs.declared.reply.Reply.{Reply}
-use Rattle.rr_commands.specs.Refusals.{refusal}
-use Rattle.rr_commands.specs.Step.{Acts, Step}
-use Rattle.rr_commands.specs.Run.{Run}
-use Rattle.rr_commands.specs.AnswerRule.{Event, AnswersTheRequest, ReceivesOnce, ReceivesInOrder}
+use Rattle.rr_protocol.specs.declared.command.Command.{Command}
+use Rattle.rr_protocol.specs.declared.reply.Reply.{Reply}
+use Rattle.rr_protocol.specs.Refusals.{refusal}
+use Rattle.rr_protocol.specs.Step.{Acts, Step}
+use Rattle.rr_protocol.specs.Run.{Run}
+use Rattle.rr_protocol.specs.AnswerRule.{Event, AnswersTheRequest, ReceivesOnce, ReceivesInOrder}
 use Rattle.rr_laws.specs.Reached.{IsReached}
 use Rattle.rr_laws.specs.Apart.{IsApart}
 use Rattle.rr_laws.specs.Following.{Follows}

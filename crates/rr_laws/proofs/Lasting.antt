@@ -5,7 +5,7 @@ use Rattle.rr_protocol.specs.declared.limits.Limits.{Limits}
 use Rattle.rr_protocol.specs.declared.settings.BackpressureStrategy.{BackpressureStrategy}
 use Rattle.rr_protocol.specs.Ports.{Client, Server}
 use Rattle.rr_protocol.specs.State.{State}
-use Rattle.rr_map_laws.proofs.ListFacts.{find-gone, find-changed}
+use Rattle.rr_table.proofs.ListFacts.{find-gone, find-changed}
 use Rattle.rr_laws.proofs.LeftPorts.{found-append_cases}
 
 module _ {X V : Type 0} (id : X → ℕ) (lasting : X → V) where

@@ -22,11 +22,11 @@ use Rattle.rr_protocol.specs.Creation.{with_client, with_server, CreatesClient, 
 use Rattle.rr_protocol.specs.Sends.{SendsRequest, SendsResponse, with_response_put}
 use Rattle.rr_protocol.specs.Receives.{Skims, ReceivesUnskimmed, ReceivesRequest, ReceivesResponse}
 use Rattle.rr_protocol.specs.Releases.{has_responses_from, has_requests_from, with_expired_client, with_expired_server, after_client_left, after_server_left, without_unused_port, without_port_value, without_value, after_handle_gone, after_release}
-use Rattle.rr_commands.specs.declared.command.Command.{Command}
-use Rattle.rr_commands.specs.declared.reply.Reply.{Reply}
-use Rattle.rr_commands.specs.Refusals.{refusal}
-use Rattle.rr_commands.specs.Step.{client_settings, server_settings, with_complete, Loans, Acts, Step}
-use Rattle.rr_commands.specs.Run.{Run}
+use Rattle.rr_protocol.specs.declared.command.Command.{Command}
+use Rattle.rr_protocol.specs.declared.reply.Reply.{Reply}
+use Rattle.rr_protocol.specs.Refusals.{refusal}
+use Rattle.rr_protocol.specs.Step.{client_settings, server_settings, with_complete, Loans, Acts, Step}
+use Rattle.rr_protocol.specs.Run.{Run}
 use Rattle.rr_laws.proofs.Leaving.{without_value_id}
 use Rattle.rr_laws.proofs.Loaning.{counted_id}
 use Rattle.rr_laws.proofs.Lasting.{client_lasting, server_lasting, ports_same, ports_with_one, ports_changed, ports_without, Lasts, frame_of, lasts_with_more, lasts_by_frame, lasts_then}

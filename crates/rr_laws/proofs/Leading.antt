@@ -5,8 +5,8 @@ use Rattle.std.specs.List.{AllByRecursion, list_any}
 use Rattle.std.specs.FinMap.{get-empty, get}
 use Rattle.std.proofs.lemmas.List.{append-nil}
 use Rattle.std.specs.Ordering.{nat_cmp}
-use Rattle.rr_map_laws.proofs.ListFacts.{any_found, any_weaker}
-use Rattle.rr_map_laws.proofs.MapLaws.{map_values-empty}
+use Rattle.rr_table.proofs.ListFacts.{any_found, any_weaker}
+use Rattle.rr_table.proofs.MapLaws.{map_values-empty}
 use Rattle.rr_protocol.specs.declared.limits.Limits.{Limits}
 use Rattle.rr_protocol.specs.Keys.{request_key_cmp, RequestKey}
 use Rattle.rr_protocol.specs.State.{handle_at, is_server_value, pending_at, server_at, empty_hub, State}
@@ -15,9 +15,9 @@ use Rattle.rr_protocol.specs.Messages.{PendingResponse, RequestMessage}
 use Rattle.rr_protocol.specs.Receives.{ReceivesRequest, ReceivesResponse}
 use Rattle.rr_protocol.specs.Ports.{Server}
 use Rattle.rr_protocol.proofs.ListsLaws.{at-no_lists}
-use Rattle.rr_commands.specs.declared.reply.Reply.{Reply}
-use Rattle.rr_commands.specs.declared.command.Command.{Command}
-use Rattle.rr_commands.specs.AnswerRule.{sent_for, is_answer, creates_waiting, ReceivesOnce, ReceivesAll, received_by, KeepsAnswerRule, ReceivesWithoutGap, ReceivesInOrder, AnswersTheRequest, received_from, Event, sent_by, IsSubsequence, is_release}
+use Rattle.rr_protocol.specs.declared.reply.Reply.{Reply}
+use Rattle.rr_protocol.specs.declared.command.Command.{Command}
+use Rattle.rr_protocol.specs.AnswerRule.{sent_for, is_answer, creates_waiting, ReceivesOnce, ReceivesAll, received_by, KeepsAnswerRule, ReceivesWithoutGap, ReceivesInOrder, AnswersTheRequest, received_from, Event, sent_by, IsSubsequence, is_release}
 use Rattle.rr_laws.specs.Standing.{Stands}
 use Rattle.rr_laws.specs.Completing.{Completes}
 use Rattle.rr_laws.specs.Following.{WasSent, Follows, WasReceived, waiting_question, queued}

@@ -7,7 +7,7 @@ use Rattle.std.specs.FinMap as fin_map
 use Rattle.std.specs.FinMap.{get, entries}
 use Rattle.std.proofs.lemmas.Bool.{eq-eqb, eqb-false}
 use Rattle.std.proofs.lemmas.List.{length-map}
-use Rattle.rr_map_laws.specs.Maps.{tally}
+use Rattle.rr_table.specs.Maps.{tally}
 use Rattle.rr_protocol.specs.Limits.{max_loaned_responses}
 use Rattle.rr_protocol.specs.Lists.{at, with_at}
 use Rattle.rr_protocol.specs.Keys.{RequestKey}
@@ -20,8 +20,8 @@ use Rattle.rr_protocol.proofs.KeyLaws.{request_keys_total, request_keys_exact}
 use Rattle.rr_protocol.proofs.ListsLaws.{at-retain_keys}
 use Rattle.rr_laws.specs.Roles.{Role, role_of, roles_of, loans_response}
 use Rattle.rr_laws.specs.Reached.{RequestFits, RequestsFit, Fits, IsReached}
-use Rattle.rr_map_laws.proofs.MapFacts.{any_value}
-use Rattle.rr_map_laws.proofs.ListFacts.{any-map, all_filter, all_map, length-filter_le, find-gone, find-changed}
+use Rattle.rr_table.proofs.MapFacts.{any_value}
+use Rattle.rr_table.proofs.ListFacts.{any-map, all_filter, all_map, length-filter_le, find-gone, find-changed}
 use Rattle.rr_laws.proofs.RoleLaws.{handle_of, roles-map_handles}
 use Rattle.rr_laws.proofs.Connected.{port_number, port_stays, no_port_stays, NoPortComes, has-gone, hadn't, has-changed, has-same, handles_with_ports, responses_with_ports, request_with_servers, requests_with_servers}
 use Rattle.rr_laws.proofs.Releasing.{without_server-role, handle_gone_reached}

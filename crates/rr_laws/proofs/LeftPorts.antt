@@ -6,7 +6,7 @@ use Rattle.std.specs.Ordering.{nat_cmp}
 use Rattle.std.specs.Cmp.{nat_cmp_total}
 use Rattle.std.specs.FinMap.{nat_cmp-IsAntisymmetric}
 use Rattle.std.proofs.lemmas.Bool.{eq-eqb, eqb-true}
-use Rattle.rr_map_laws.proofs.ListFacts.{all_each, all_append, all_drop, find-append, find-gone}
+use Rattle.rr_table.proofs.ListFacts.{all_each, all_append, all_drop, find-append, find-gone}
 use Rattle.rr_protocol.specs.declared.limits.Limits.{Limits}
 use Rattle.rr_protocol.specs.Lists.{Lists, at, with_at}
 use Rattle.rr_protocol.specs.Ports.{Client, Server}

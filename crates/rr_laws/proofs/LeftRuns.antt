@@ -18,11 +18,11 @@ use Rattle.rr_protocol.specs.State.{State, empty_hub, handle_at, is_client_value
 use Rattle.rr_protocol.specs.Queries.{kind_of}
 use Rattle.rr_protocol.specs.Creation.{CreatesClient, CreatesServer}
 use Rattle.rr_protocol.proofs.ListsLaws.{at-no_lists}
-use Rattle.rr_commands.specs.declared.command.Command.{Command}
-use Rattle.rr_commands.specs.declared.reply.Reply.{Reply}
-use Rattle.rr_commands.specs.Refusals.{refusal_of_kind, refusal}
-use Rattle.rr_commands.specs.Step.{Step}
-use Rattle.rr_commands.specs.Run.{Run}
+use Rattle.rr_protocol.specs.declared.command.Command.{Command}
+use Rattle.rr_protocol.specs.declared.reply.Reply.{Reply}
+use Rattle.rr_protocol.specs.Refusals.{refusal_of_kind, refusal}
+use Rattle.rr_protocol.specs.Step.{Step}
+use Rattle.rr_protocol.specs.Run.{Run}
 use Rattle.rr_laws.specs.Roles.{role_of}
 use Rattle.rr_laws.specs.Reached.{IsReached}
 use Rattle.rr_laws.specs.Left.{LeftFit, IsLeftFit}

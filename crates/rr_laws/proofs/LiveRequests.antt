@@ -7,7 +7,7 @@ use Rattle.std.specs.Cmp.{nat_cmp_total}
 use Rattle.std.specs.FinMap.{entries}
 use Rattle.std.proofs.Math.Nat.{mul-le-mul_right}
 use Rattle.std.proofs.lemmas.Bool.{eq-eqb, eqb-true}
-use Rattle.rr_map_laws.specs.Maps.{tally}
+use Rattle.rr_table.specs.Maps.{tally}
 use Rattle.rr_protocol.specs.Lists.{at, all_elements}
 use Rattle.rr_protocol.specs.Keys.{RequestKey, request_key}
 use Rattle.rr_protocol.specs.Messages.{RequestMessage, Handle, RequestMutUninit, RequestMut, PendingResponse, ActiveRequest, ResponseMutUninit, ResponseMut, Response, request_in}
@@ -17,9 +17,9 @@ use Rattle.rr_protocol.specs.Counts.{live_requests}
 use Rattle.rr_protocol.proofs.KeyLaws.{request_keys_total}
 use Rattle.rr_laws.specs.Roles.{Role, LoanedRequest, SentRequest, ReceivedRequest, LoanedResponse, ReceivedResponse, role_of, roles_of, loans_request, waits, holds_request}
 use Rattle.rr_laws.specs.Reached.{has_port, RequestFits, IsReached}
-use Rattle.rr_map_laws.proofs.ListFacts.{any_weaker, all_each, any_found}
-use Rattle.rr_map_laws.proofs.MapFacts.{all_entries, one_entry}
-use Rattle.rr_map_laws.proofs.Counting.{count-parts, count-bins, count-filter_map}
+use Rattle.rr_table.proofs.ListFacts.{any_weaker, all_each, any_found}
+use Rattle.rr_table.proofs.MapFacts.{all_entries, one_entry}
+use Rattle.rr_table.proofs.Counting.{count-parts, count-bins, count-filter_map}
 use Rattle.rr_laws.proofs.RoleLaws.{count-roles}
 use Rattle.rr_laws.proofs.Counts.{and_first, and_second}
 use Rattle.rr_laws.proofs.Bins.{all_of, distinct_parts, all_lists, count_elements}

@@ -9,7 +9,7 @@ use Rattle.std.proofs.Math.Nat.{mul-le-mul_right, mul_assoc, mul-add}
 use Rattle.std.proofs.lemmas.Bool.{eq-eqb, eqb-true}
 use Rattle.std.proofs.lemmas.List.Sums.{length-filter}
 use Rattle.std.proofs.lemmas.Map.Views.{any-filter_same}
-use Rattle.rr_map_laws.specs.Maps.{tally}
+use Rattle.rr_table.specs.Maps.{tally}
 use Rattle.rr_protocol.specs.Limits.{worst_case_requests}
 use Rattle.rr_protocol.specs.Lists.{at, all_elements}
 use Rattle.rr_protocol.specs.Keys.{ResponseKey}
@@ -20,9 +20,9 @@ use Rattle.rr_protocol.specs.Counts.{live_responses}
 use Rattle.rr_protocol.proofs.KeyLaws.{response_keys_total}
 use Rattle.rr_laws.specs.Roles.{Question, Role, LoanedRequest, SentRequest, ReceivedRequest, LoanedResponse, ReceivedResponse, role_of, roles_of, answered, answer_of, subject_of, loans_response, waits, holds_response}
 use Rattle.rr_laws.specs.Reached.{has_port, ResponseFits, IsReached}
-use Rattle.rr_map_laws.proofs.ListFacts.{any_weaker, all_each, any_found}
-use Rattle.rr_map_laws.proofs.MapFacts.{all_entries, one_entry, any_value}
-use Rattle.rr_map_laws.proofs.Counting.{count-parts, count-bins, count-filter_map}
+use Rattle.rr_table.proofs.ListFacts.{any_weaker, all_each, any_found}
+use Rattle.rr_table.proofs.MapFacts.{all_entries, one_entry, any_value}
+use Rattle.rr_table.proofs.Counting.{count-parts, count-bins, count-filter_map}
 use Rattle.rr_laws.proofs.RoleLaws.{count-roles}
 use Rattle.rr_laws.proofs.Counts.{and_first, and_second}
 use Rattle.rr_laws.proofs.Bins.{all_of, distinct_parts, all_lists, count_elements}

@@ -4,8 +4,8 @@ use Rattle.std.proofs.lemmas.List.{length-map}
 use Rattle.std.specs.Prelude.{◌≢◌, is_some, if◌then◌else◌, nat_le}
 use Rattle.std.specs.FinMap.{get, insert}
 use Rattle.std.proofs.lemmas.Bool.{eqb-true}
-use Rattle.rr_map_laws.specs.Maps.{tally}
-use Rattle.rr_map_laws.proofs.MapLaws.{get-insert_same, get-insert_cases}
+use Rattle.rr_table.specs.Maps.{tally}
+use Rattle.rr_table.proofs.MapLaws.{get-insert_same, get-insert_cases}
 use Rattle.rr_protocol.specs.declared.error.LoanError.{LoanError}
 use Rattle.rr_protocol.specs.declared.limits.Limits.{Limits}
 use Rattle.rr_protocol.specs.Limits.{worst_case_requests, max_loaned_responses}
@@ -18,7 +18,7 @@ use Rattle.rr_protocol.specs.Loans.{with_loan_counted, request_loan_refusal, wit
 use Rattle.rr_protocol.specs.Counts.{loaned_requests, loaned_responses, loaned_responses_from, live_responses}
 use Rattle.rr_laws.specs.Roles.{Question, Answer, Role, LoanedRequest, SentRequest, LoanedResponse, Roles, roles_of, question_of, asking, loans_request, loans_response}
 use Rattle.rr_laws.specs.Reached.{IsKnown, RoleFits, CountsFit, Fits, IsReached}
-use Rattle.rr_map_laws.proofs.ListFacts.{all_found, all_map, passes_found}
+use Rattle.rr_table.proofs.ListFacts.{all_found, all_map, passes_found}
 use Rattle.rr_laws.proofs.RoleLaws.{role_at, roles-insert, loaned_requests-roles, loaned_responses-roles}
 use Rattle.rr_laws.proofs.Staying.{AskingStays, asking_stays_with_new, waiting_stays_with, known_stays, role_stays, requests_stay, responses_stay, ports_with_more}
 use Rattle.rr_laws.proofs.Counts.{counts_with_request_loan, counts_with_response_loan}

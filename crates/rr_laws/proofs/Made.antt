@@ -16,10 +16,10 @@ use Rattle.rr_protocol.specs.Ports.{Client, Server}
 use Rattle.rr_protocol.specs.State.{State, client_at, server_at, handle_at, active_at}
 use Rattle.rr_protocol.specs.Messages.{ActiveRequest}
 use Rattle.rr_protocol.specs.Creation.{pool_size_of, loans_of, CreatesClient, CreatesServer}
-use Rattle.rr_commands.specs.declared.command.Command.{Command}
-use Rattle.rr_commands.specs.declared.reply.Reply.{Reply}
-use Rattle.rr_commands.specs.Step.{client_settings, server_settings, Step}
-use Rattle.rr_commands.specs.AnswerRule.{is_active_of}
+use Rattle.rr_protocol.specs.declared.command.Command.{Command}
+use Rattle.rr_protocol.specs.declared.reply.Reply.{Reply}
+use Rattle.rr_protocol.specs.Step.{client_settings, server_settings, Step}
+use Rattle.rr_protocol.specs.AnswerRule.{is_active_of}
 use Rattle.rr_laws.specs.Reached.{has_server, is_port, IsReached}
 use Rattle.rr_laws.specs.Unreduced.{HasClientPool, HasServerPool}
 use Rattle.rr_laws.specs.Whole.{is_whole, creates_whole_client, creates_whole_server}

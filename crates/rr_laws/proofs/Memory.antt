@@ -17,10 +17,10 @@ use Rattle.rr_protocol.specs.Counts.{live_requests, live_responses, loaned_reque
 use Rattle.rr_protocol.specs.Loans.{is_too_long, IsLoanRefusal, LoansRequest, LoansResponse}
 use Rattle.rr_protocol.specs.Sends.{is_request_refused, SendsRequest, SendsResponse}
 use Rattle.rr_protocol.specs.Queries.{kind_at}
-use Rattle.rr_commands.specs.declared.command.Command.{Command}
-use Rattle.rr_commands.specs.declared.reply.Reply.{Reply}
-use Rattle.rr_commands.specs.Refusals.{has_call, has_length, needs_number, is_incomplete, refusal_of_kind, refusal, number_in}
-use Rattle.rr_commands.specs.Step.{with_complete, Loans, Acts}
+use Rattle.rr_protocol.specs.declared.command.Command.{Command}
+use Rattle.rr_protocol.specs.declared.reply.Reply.{Reply}
+use Rattle.rr_protocol.specs.Refusals.{has_call, has_length, needs_number, is_incomplete, refusal_of_kind, refusal, number_in}
+use Rattle.rr_protocol.specs.Step.{with_complete, Loans, Acts}
 use Rattle.rr_laws.specs.Reached.{IsReached}
 use Rattle.rr_laws.specs.Unreduced.{asked_in, is_out_of_memory, ClientHasPool, ServerHasPool, HasPool, FindsMemory}
 use Rattle.rr_laws.proofs.Opening.{some_and, open_request_mut, open_response_mut}

@@ -8,10 +8,10 @@ use Rattle.std.specs.List.{AllByRecursion}
 use Rattle.std.specs.Option.{option_map_or}
 use Rattle.std.specs.FinMap.{get, insert}
 use Rattle.std.proofs.lemmas.Bool.{cases_eq, eq-eqb, ne_eqb}
-use Rattle.rr_map_laws.specs.Maps.{mark}
-use Rattle.rr_map_laws.proofs.MapLaws.{get-insert_same, get-insert_other, get-insert_cases}
-use Rattle.rr_map_laws.proofs.Counting.{count-cons}
-use Rattle.rr_map_laws.proofs.MapFacts.{itself}
+use Rattle.rr_table.specs.Maps.{mark}
+use Rattle.rr_table.proofs.MapLaws.{get-insert_same, get-insert_other, get-insert_cases}
+use Rattle.rr_table.proofs.Counting.{count-cons}
+use Rattle.rr_table.proofs.MapFacts.{itself}
 use Rattle.rr_protocol.specs.declared.error.ReceiveError.{ReceiveError}
 use Rattle.rr_protocol.specs.Lists.{at, with_at}
 use Rattle.rr_protocol.specs.Keys.{ResponseKey, response_key_cmp}
@@ -21,7 +21,7 @@ use Rattle.rr_protocol.specs.Loans.{LoansResponse}
 use Rattle.rr_protocol.specs.Receives.{Skims, with_active_request, ReceivesRequest, ReceivesResponse}
 use Rattle.rr_protocol.proofs.KeyLaws.{response_keys_total, response_keys_exact}
 use Rattle.rr_protocol.proofs.ListsLaws.{at-with_at}
-use Rattle.rr_commands.specs.AnswerRule.{Event}
+use Rattle.rr_protocol.specs.AnswerRule.{Event}
 use Rattle.rr_laws.specs.Roles.{Question, Role, SentRequest, ReceivedRequest, LoanedResponse, ReceivedResponse, Answer, roles_of, question_of, answer_of, asking}
 use Rattle.rr_laws.specs.Reached.{ResponseFits, IsReached}
 use Rattle.rr_laws.specs.Apart.{standing, IsApart}

@@ -4,7 +4,7 @@ use Rattle.std.specs.Prelude.{fold, filter, is_some}
 use Rattle.std.specs.Option.{option_map_or}
 use Rattle.std.specs.FinMap as fin_map
 use Rattle.std.specs.FinMap.{get, remove}
-use Rattle.rr_map_laws.proofs.MapLaws.{get-remove_cases}
+use Rattle.rr_table.proofs.MapLaws.{get-remove_cases}
 use Rattle.rr_protocol.specs.Lists.{with_at}
 use Rattle.rr_protocol.specs.Messages.{Handle, RequestMutUninit, RequestMut, PendingResponse, ActiveRequest, ResponseMutUninit, ResponseMut, Response, port_of}
 use Rattle.rr_protocol.specs.State.{State, client_at, handle_at}

@@ -9,7 +9,7 @@ use Rattle.rr_protocol.specs.Receives.{ReceivesResponse}
 use Rattle.rr_protocol.specs.State.{State, handle_at, pending_at, is_client_value, is_server_value}
 use Rattle.rr_laws.specs.Roles.{role_of, roles_of}
 use Rattle.rr_laws.specs.Reached.{has_client, has_server, is_port, ResponseFits, IsReached}
-use Rattle.rr_map_laws.proofs.ListFacts.{any_found, any_weaker}
+use Rattle.rr_table.proofs.ListFacts.{any_found, any_weaker}
 use Rattle.rr_laws.proofs.Connected.{not_both}
 use Rattle.rr_laws.proofs.Counts.{and_first}
 use Rattle.rr_laws.proofs.Opening.{some_and}

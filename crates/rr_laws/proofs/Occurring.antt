@@ -2,8 +2,8 @@
 use Rattle.std.proofs.Common.{◌≡◌, ℕ, ◌<◌, Bool, true, false, cond, ◌&&◌, List, [], ◌∷◌, ◌++◌, drop, refl, ap, ◌∙◌, ⊎_elim, inl, inr, suc, zero}
 use Rattle.std.specs.Prelude.{◌||◌, filter}
 use Rattle.std.specs.List.{AllByRecursion, list_any}
-use Rattle.rr_commands.specs.AnswerRule.{Event, IsSubsequence, occur_in_order}
-use Rattle.rr_map_laws.proofs.ListFacts.{or_true}
+use Rattle.rr_protocol.specs.AnswerRule.{Event, IsSubsequence, occur_in_order}
+use Rattle.rr_table.proofs.ListFacts.{or_true}
 
 -- the two truth values are different
 pub false_is_true : false ≡ true → ⊥

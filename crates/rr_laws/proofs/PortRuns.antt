@@ -7,10 +7,10 @@ use Rattle.rr_protocol.specs.Writing.{after_init}
 use Rattle.rr_protocol.specs.Messages.{with_hint}
 use Rattle.rr_protocol.specs.State.{State, empty_hub}
 use Rattle.rr_protocol.specs.Limits.{hub_refusal}
-use Rattle.rr_commands.specs.declared.command.Command.{Command}
-use Rattle.rr_commands.specs.declared.reply.Reply.{Reply}
-use Rattle.rr_commands.specs.PortRun.{PortStep, PortEvent, PortRun}
-use Rattle.rr_commands.specs.AnswerRule.{creates_waiting, KeepsAnswerRule}
+use Rattle.rr_protocol.specs.declared.command.Command.{Command}
+use Rattle.rr_protocol.specs.declared.reply.Reply.{Reply}
+use Rattle.rr_protocol.specs.PortRun.{PortStep, PortEvent, PortRun}
+use Rattle.rr_protocol.specs.AnswerRule.{creates_waiting, KeepsAnswerRule}
 use Rattle.rr_laws.specs.Apart.{IsApart}
 use Rattle.rr_laws.specs.Following.{MovesQuietly, Follows}
 use Rattle.rr_laws.specs.Standing.{Stands}

@@ -4,9 +4,9 @@ use Rattle.rr_protocol.specs.declared.settings.BackpressureAction.{BackpressureA
 use Rattle.rr_protocol.specs.State.{State, with_changed}
 use Rattle.rr_protocol.specs.Messages.{Handle, with_hint}
 use Rattle.rr_protocol.specs.Writing.{with_request_content, with_response_content, after_init}
-use Rattle.rr_commands.specs.declared.command.Command.{Command}
-use Rattle.rr_commands.specs.declared.reply.Reply.{Reply}
-use Rattle.rr_commands.specs.PortRun.{PortEvent, Rewrites, PortStep}
+use Rattle.rr_protocol.specs.declared.command.Command.{Command}
+use Rattle.rr_protocol.specs.declared.reply.Reply.{Reply}
+use Rattle.rr_protocol.specs.PortRun.{PortEvent, Rewrites, PortStep}
 use Rattle.rr_laws.specs.Roles.{role_of}
 use Rattle.rr_laws.specs.Reached.{IsReached}
 use Rattle.rr_laws.proofs.Calling.{KeptByCalls}

@@ -20,7 +20,7 @@ use Rattle.rr_protocol.proofs.KeyLaws.{request_keys_total, request_keys_exact, r
 use Rattle.rr_protocol.proofs.ListsLaws.{at-with_at, at-retain_keys}
 use Rattle.rr_laws.specs.Roles.{Roles}
 use Rattle.rr_laws.specs.Reached.{RequestFits, RequestsFit, ResponseFits, ResponsesFit}
-use Rattle.rr_map_laws.proofs.ListFacts.{all_append, all_drop}
+use Rattle.rr_table.proofs.ListFacts.{all_append, all_drop}
 use Rattle.rr_laws.proofs.Staying.{Shrinks}
 
 module _ {X : Type 0} where

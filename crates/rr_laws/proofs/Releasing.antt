@@ -5,7 +5,7 @@ use Rattle.std.specs.List.{AllByRecursion}
 use Rattle.std.specs.FinMap as fin_map
 use Rattle.std.specs.FinMap.{get, remove}
 use Rattle.std.proofs.lemmas.Bool.{eq-eqb}
-use Rattle.rr_map_laws.proofs.MapLaws.{get-remove_cases, get-remove_other}
+use Rattle.rr_table.proofs.MapLaws.{get-remove_cases, get-remove_other}
 use Rattle.rr_protocol.specs.declared.limits.Limits.{Limits}
 use Rattle.rr_protocol.specs.Lists.{Lists, at}
 use Rattle.rr_protocol.specs.Keys.{ResponseKey, request_key_cmp, response_key_cmp}
@@ -17,7 +17,7 @@ use Rattle.rr_protocol.proofs.KeyLaws.{response_keys_total, response_keys_exact}
 use Rattle.rr_protocol.proofs.ListsLaws.{at-retain_keys}
 use Rattle.rr_laws.specs.Roles.{Question, LoanedRequest, SentRequest, ReceivedRequest, LoanedResponse, ReceivedResponse, Roles, role_of, roles_of, question_of, answer_of, answered}
 use Rattle.rr_laws.specs.Reached.{ResponseFits, ResponsesFit, Fits, IsReached}
-use Rattle.rr_map_laws.proofs.ListFacts.{all_each}
+use Rattle.rr_table.proofs.ListFacts.{all_each}
 use Rattle.rr_laws.proofs.RoleLaws.{role_at, roles-remove, roles-changed}
 use Rattle.rr_laws.proofs.Staying.{asking_stays_without, waiting_stays_without, role_stays, requests_stay, responses_stay, responses_shrink, no_request_later}
 use Rattle.rr_laws.proofs.Counts.{counts_without}

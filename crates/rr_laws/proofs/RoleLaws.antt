@@ -7,8 +7,8 @@ use Rattle.std.specs.Cmp.{nat_cmp_total}
 use Rattle.std.specs.FinMap as fin_map
 use Rattle.std.specs.FinMap.{FinMap, get, insert, remove, entries, same_map, nat_cmp-IsAntisymmetric}
 use Rattle.std.proofs.lemmas.Bool.{cases_eq}
-use Rattle.rr_map_laws.specs.Maps.{mark, tally}
-use Rattle.rr_map_laws.proofs.MapLaws.{get-map_values, map_values-insert, map_values-remove, insert_itself, tally-map_values, tally-insert, tally-remove, tally-replace, get-remove_other, get-remove_same}
+use Rattle.rr_table.specs.Maps.{mark, tally}
+use Rattle.rr_table.proofs.MapLaws.{get-map_values, map_values-insert, map_values-remove, insert_itself, tally-map_values, tally-insert, tally-remove, tally-replace, get-remove_other, get-remove_same}
 use Rattle.rr_protocol.specs.Keys.{RequestKey, ResponseKey}
 use Rattle.rr_protocol.specs.Messages.{RequestMessage, ResponseMessage, Pending, Active, Handle, RequestMutUninit, RequestMut, PendingResponse, ActiveRequest, ResponseMutUninit, ResponseMut, Response}
 use Rattle.rr_protocol.specs.State.{State, all_handles}
@@ -16,7 +16,7 @@ use Rattle.rr_protocol.specs.Counts.{is_request_loan, is_response_loan, is_pendi
 use Rattle.rr_protocol.specs.Releases.{map_handles}
 use Rattle.rr_protocol.proofs.HandleLaws.{get-map_handles}
 use Rattle.rr_laws.specs.Roles.{Role, Roles, role_of, roles_of, loans_request, waits, holds_request, loans_response, holds_response}
-use Rattle.rr_map_laws.proofs.Counting.{count-map}
+use Rattle.rr_table.proofs.Counting.{count-map}
 
 module _ {Q QH P PH : Type 0} where
   -- the role under a number

@@ -8,7 +8,7 @@ use Rattle.rr_protocol.specs.State.{State}
 use Rattle.rr_protocol.specs.Messages.{ResponseMessage}
 use Rattle.rr_protocol.specs.Lists.{at}
 use Rattle.rr_protocol.proofs.KeyLaws.{response_keys_exact, response_keys_total}
-use Rattle.rr_commands.specs.AnswerRule.{Event}
+use Rattle.rr_protocol.specs.AnswerRule.{Event}
 use Rattle.rr_laws.specs.Roles.{roles_of, answer_of, SentRequest, answered}
 use Rattle.rr_laws.specs.Following.{channel_key, queued}
 use Rattle.rr_laws.specs.Standing.{Stands}

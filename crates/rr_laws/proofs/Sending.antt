@@ -3,7 +3,7 @@ use Rattle.std.proofs.Common.{◌≡◌, ℕ, ◌<◌, Bool, true, false, cond, 
 use Rattle.std.specs.Prelude.{fold, option_and_then, is_some}
 use Rattle.std.specs.FinMap.{get, insert}
 use Rattle.std.proofs.lemmas.Bool.{eqb-true}
-use Rattle.rr_map_laws.specs.Maps.{tally}
+use Rattle.rr_table.specs.Maps.{tally}
 use Rattle.rr_protocol.specs.declared.settings.BackpressureAction.{BackpressureAction}
 use Rattle.rr_protocol.specs.declared.error.RequestSendError.{RequestSendError}
 use Rattle.rr_protocol.specs.declared.error.SendError.{SendError}
@@ -16,7 +16,7 @@ use Rattle.rr_protocol.specs.Counts.{pending_responses, is_alive}
 use Rattle.rr_protocol.specs.Sends.{put, request_reach, with_request_put, with_response_put, with_sent_request, SendsRequest, SendsResponse}
 use Rattle.rr_laws.specs.Roles.{answered, LoanedRequest, SentRequest, LoanedResponse, roles_of, question_of, answer_of, asking, asking_at, waits}
 use Rattle.rr_laws.specs.Reached.{is_port, RequestFits, RequestsFit, ResponseFits, ResponsesFit, Fits, IsReached}
-use Rattle.rr_map_laws.proofs.ListFacts.{all_map, each_found, passes_found}
+use Rattle.rr_table.proofs.ListFacts.{all_map, each_found, passes_found}
 use Rattle.rr_laws.proofs.RoleLaws.{role_at, roles-insert, pending_responses-roles}
 use Rattle.rr_laws.proofs.Staying.{asking_stays_with, known_stays}
 use Rattle.rr_laws.proofs.Counts.{counts_with_sent_request}

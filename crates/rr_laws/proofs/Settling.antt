@@ -3,7 +3,7 @@ use Rattle.std.proofs.Common.{◌≡◌, ℕ, ◌<◌, ◌≤◌, true, eqb, Lis
 use Rattle.std.specs.Prelude.{◌⊎◌, ◌&&◌, find, option_and_then}
 use Rattle.std.specs.List.{list_any}
 use Rattle.std.specs.FinMap.{get, insert}
-use Rattle.rr_map_laws.proofs.MapLaws.{get-insert_other, get-insert_cases}
+use Rattle.rr_table.proofs.MapLaws.{get-insert_other, get-insert_cases}
 use Rattle.rr_protocol.specs.Keys.{RequestKey}
 use Rattle.rr_protocol.specs.Ports.{Server}
 use Rattle.rr_protocol.specs.State.{State, server_at, is_server_value}

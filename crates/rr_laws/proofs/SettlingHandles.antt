@@ -5,7 +5,7 @@ use Rattle.std.specs.Option.{option_map_or}
 use Rattle.std.specs.FinMap as fin_map
 use Rattle.std.specs.FinMap.{get, remove}
 use Rattle.std.proofs.lemmas.Bool.{cases_eq, eqb-true, ne_eqb}
-use Rattle.rr_map_laws.proofs.MapLaws.{get-remove_cases}
+use Rattle.rr_table.proofs.MapLaws.{get-remove_cases}
 use Rattle.rr_protocol.specs.Lists.{at}
 use Rattle.rr_protocol.specs.Messages.{Handle, RequestMutUninit, RequestMut, PendingResponse, ActiveRequest, ResponseMutUninit, ResponseMut, Response, Pending, port_of}
 use Rattle.rr_protocol.specs.Ports.{Port, Client, Server}
@@ -17,7 +17,7 @@ use Rattle.rr_laws.specs.Apart.{ChannelsApart}
 use Rattle.rr_laws.specs.Left.{IsLeftFit}
 use Rattle.rr_laws.specs.Following.{channel_key}
 use Rattle.rr_laws.specs.Settling.{Settles}
-use Rattle.rr_map_laws.proofs.ListFacts.{find-changed, any-map, any_weaker}
+use Rattle.rr_table.proofs.ListFacts.{find-changed, any-map, any_weaker}
 use Rattle.rr_laws.proofs.RoleLaws.{role_at, roles-remove, roles-changed}
 use Rattle.rr_laws.proofs.Releasing.{without_server-role, handle_gone_reached}
 use Rattle.rr_laws.proofs.Leaving.{without_value_id, without_port_value_reached}

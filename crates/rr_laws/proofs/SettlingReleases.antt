@@ -20,7 +20,7 @@ use Rattle.rr_laws.specs.Reached.{has_server, IsReached}
 use Rattle.rr_laws.specs.Left.{IsGone, IsLeftFit}
 use Rattle.rr_laws.specs.Following.{channel_key, queued}
 use Rattle.rr_laws.specs.Settling.{listed, Settles}
-use Rattle.rr_map_laws.proofs.ListFacts.{all_each, all_append, find-gone, any-filter, any_weaker}
+use Rattle.rr_table.proofs.ListFacts.{all_each, all_append, find-gone, any-filter, any_weaker}
 use Rattle.rr_laws.proofs.RoleLaws.{roles-map_handles}
 use Rattle.rr_laws.proofs.Releasing.{without_server-role}
 use Rattle.rr_laws.proofs.Expiring.{clients_expired, servers_expired}

@@ -27,7 +27,7 @@ use Rattle.rr_laws.specs.Following.{channel_key, entries_for, queued, Moves}
 use Rattle.rr_laws.specs.Settling.{IsServing, IsWaiting, Settles}
 use Rattle.rr_laws.proofs.RoleLaws.{role_at, handle_of}
 use Rattle.rr_laws.proofs.Opening.{open_response_mut}
-use Rattle.rr_map_laws.proofs.MapFacts.{itself}
+use Rattle.rr_table.proofs.MapFacts.{itself}
 use Rattle.rr_laws.proofs.Sending.{response_fits, response_put_reached}
 use Rattle.rr_laws.proofs.Occurring.{false_is_true}
 use Rattle.rr_laws.proofs.Moving.{entries-waiting, then_quietly}

@@ -7,8 +7,8 @@ use Rattle.std.specs.Ordering.{is_eq}
 use Rattle.std.specs.List.{AllByRecursion}
 use Rattle.std.specs.FinMap.{get, insert}
 use Rattle.std.proofs.lemmas.Bool.{eqb-true}
-use Rattle.rr_map_laws.specs.Maps.{mark}
-use Rattle.rr_map_laws.proofs.MapLaws.{get-insert_other, get-insert_cases}
+use Rattle.rr_table.specs.Maps.{mark}
+use Rattle.rr_table.proofs.MapLaws.{get-insert_other, get-insert_cases}
 use Rattle.rr_protocol.specs.declared.settings.BackpressureAction.{BackpressureAction}
 use Rattle.rr_protocol.specs.declared.error.RequestSendError.{RequestSendError}
 use Rattle.rr_protocol.specs.declared.error.ReceiveError.{ReceiveError}
@@ -31,7 +31,7 @@ use Rattle.rr_laws.specs.Settling.{listed, Settles}
 use Rattle.rr_laws.proofs.RoleLaws.{role_at, roles-insert}
 use Rattle.rr_laws.proofs.Opening.{some_and, open_request_mut, open_active}
 use Rattle.rr_laws.proofs.Connected.{has_below}
-use Rattle.rr_map_laws.proofs.Counting.{count-cons}
+use Rattle.rr_table.proofs.Counting.{count-cons}
 use Rattle.rr_laws.proofs.Putting.{shrinks_taken}
 use Rattle.rr_laws.proofs.Apart.{count-drop}
 use Rattle.rr_laws.proofs.ApartResponses.{count-put}

@@ -7,10 +7,10 @@ use Rattle.std.proofs.lemmas.Bool.{eq-eqb, eqb-true}
 use Rattle.std.proofs.lemmas.List.Folds.{list_any-append}
 use Rattle.rr_slots.specs.declared.family.Family.{Family}
 use Rattle.rr_slots.specs.declared.family.Family.TheVariants.{Typed, Sliced}
-use Rattle.rr_map_laws.specs.Maps.{mark}
-use Rattle.rr_map_laws.proofs.MapLaws.{get-insert_same}
-use Rattle.rr_map_laws.proofs.ListFacts.{any-append}
-use Rattle.rr_map_laws.proofs.Counting.{count-cons}
+use Rattle.rr_table.specs.Maps.{mark}
+use Rattle.rr_table.proofs.MapLaws.{get-insert_same}
+use Rattle.rr_table.proofs.ListFacts.{any-append}
+use Rattle.rr_table.proofs.Counting.{count-cons}
 use Rattle.rr_protocol.specs.declared.settings.BackpressureStrategy.{BackpressureStrategy}
 use Rattle.rr_protocol.specs.declared.settings.ServerSettings.{ServerSettings}
 use Rattle.rr_protocol.specs.Keys.{RequestKey, request_key}
@@ -19,10 +19,10 @@ use Rattle.rr_protocol.specs.Ports.{Server}
 use Rattle.rr_protocol.specs.State.{State, server_at, active_at, is_server_value}
 use Rattle.rr_protocol.specs.Creation.{CreatesServer}
 use Rattle.rr_protocol.specs.Receives.{with_active_request, ReceivesRequest}
-use Rattle.rr_commands.specs.declared.command.Command.{Command}
-use Rattle.rr_commands.specs.declared.reply.Reply.{Reply}
-use Rattle.rr_commands.specs.Step.{server_settings}
-use Rattle.rr_commands.specs.AnswerRule.{retries, creates_waiting}
+use Rattle.rr_protocol.specs.declared.command.Command.{Command}
+use Rattle.rr_protocol.specs.declared.reply.Reply.{Reply}
+use Rattle.rr_protocol.specs.Step.{server_settings}
+use Rattle.rr_protocol.specs.AnswerRule.{retries, creates_waiting}
 use Rattle.rr_laws.specs.Roles.{Question, Role, roles_of, asking, asking_at}
 use Rattle.rr_laws.specs.Reached.{IsReached}
 use Rattle.rr_laws.specs.Following.{entries_for}

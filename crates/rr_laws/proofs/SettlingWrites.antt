@@ -6,7 +6,7 @@ use Rattle.rr_protocol.specs.Messages.{Content, Handle}
 use Rattle.rr_protocol.specs.Writing.{with_request_content, with_response_content}
 use Rattle.rr_protocol.specs.State.{State, with_changed}
 use Rattle.rr_protocol.specs.Creation.{CreatesClient}
-use Rattle.rr_commands.specs.Step.{with_content, with_complete}
+use Rattle.rr_protocol.specs.Step.{with_content, with_complete}
 use Rattle.rr_laws.specs.Roles.{role_of}
 use Rattle.rr_laws.specs.Settling.{IsNew, Settles}
 use Rattle.rr_laws.proofs.RoleLaws.{roles-changed}

@@ -5,7 +5,7 @@ use Rattle.std.specs.List.{AllByRecursion}
 use Rattle.std.specs.FinMap.{get, insert, remove}
 use Rattle.std.proofs.lemmas.Bool.{cases_eq}
 use Rattle.std.proofs.lemmas.List.{length-drop}
-use Rattle.rr_map_laws.proofs.MapLaws.{get-insert_same, get-insert_other, get-remove_cases, get-remove_other}
+use Rattle.rr_table.proofs.MapLaws.{get-insert_same, get-insert_other, get-remove_cases, get-remove_other}
 use Rattle.rr_protocol.specs.declared.limits.Limits.{Limits}
 use Rattle.rr_protocol.specs.Lists.{Lists, at}
 use Rattle.rr_protocol.specs.Keys.{request_key_cmp, response_key_cmp}
@@ -13,7 +13,7 @@ use Rattle.rr_protocol.specs.Messages.{RequestMessage, ResponseMessage}
 use Rattle.rr_protocol.specs.Ports.{Client, Server}
 use Rattle.rr_laws.specs.Roles.{Question, Role, SentRequest, Roles, asking, asking_at, subject_of}
 use Rattle.rr_laws.specs.Reached.{PortsFit, IsKnown, RoleFits, RequestFits, RequestsFit, ResponseFits, ResponsesFit}
-use Rattle.rr_map_laws.proofs.ListFacts.{all_each, all_drop}
+use Rattle.rr_table.proofs.ListFacts.{all_each, all_drop}
 
 -- a request that its client has later under a number that was given before, it had before
 abbrev pub AskingStays : Roles → Roles → ℕ → Type 0

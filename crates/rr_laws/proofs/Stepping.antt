@@ -10,11 +10,11 @@ use Rattle.rr_protocol.specs.Writing.{with_element, with_element_at, with_user_h
 use Rattle.rr_protocol.specs.State.{State, handle_at}
 use Rattle.rr_protocol.specs.Loans.{LoansResponse, LoansRequest}
 use Rattle.rr_protocol.specs.Sends.{SendsResponse, SendsRequest}
-use Rattle.rr_commands.specs.declared.command.Command.{Command}
-use Rattle.rr_commands.specs.declared.reply.Reply.{Reply}
-use Rattle.rr_commands.specs.Refusals.{refusal}
-use Rattle.rr_commands.specs.Step.{client_settings, server_settings, with_content, with_complete, Loans, Acts, Step}
-use Rattle.rr_commands.specs.Run.{Run}
+use Rattle.rr_protocol.specs.declared.command.Command.{Command}
+use Rattle.rr_protocol.specs.declared.reply.Reply.{Reply}
+use Rattle.rr_protocol.specs.Refusals.{refusal}
+use Rattle.rr_protocol.specs.Step.{client_settings, server_settings, with_content, with_complete, Loans, Acts, Step}
+use Rattle.rr_protocol.specs.Run.{Run}
 use Rattle.rr_laws.specs.Reached.{IsReached}
 use Rattle.rr_laws.proofs.Opening.{some_and}
 use Rattle.rr_laws.proofs.Loaning.{loans_request_reached, loans_response_reached}

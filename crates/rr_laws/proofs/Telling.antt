@@ -7,10 +7,10 @@ use Rattle.rr_slots.specs.declared.family.Family.{Family}
 use Rattle.rr_protocol.specs.declared.kind.Kind.{Kind}
 use Rattle.rr_protocol.specs.State.{State}
 use Rattle.rr_protocol.specs.Queries.{kind_at}
-use Rattle.rr_commands.specs.declared.command.Command.{Command}
-use Rattle.rr_commands.specs.declared.reply.Reply.{Reply}
-use Rattle.rr_commands.specs.Refusals.{refusal_of_kind, number_in, refusal}
-use Rattle.rr_commands.specs.AnswerRule.{Event, is_active, is_active_of, is_response, sent_by, received_by, lender_of, creates_waiting}
+use Rattle.rr_protocol.specs.declared.command.Command.{Command}
+use Rattle.rr_protocol.specs.declared.reply.Reply.{Reply}
+use Rattle.rr_protocol.specs.Refusals.{refusal_of_kind, number_in, refusal}
+use Rattle.rr_protocol.specs.AnswerRule.{Event, is_active, is_active_of, is_response, sent_by, received_by, lender_of, creates_waiting}
 use Rattle.rr_laws.proofs.Occurring.{false_is_true}
 
 -- three tests that all pass

@@ -9,9 +9,9 @@ use Rattle.rr_protocol.specs.Limits.{hub_refusal, worst_case_responses}
 use Rattle.rr_protocol.specs.Messages.{Active, ActiveRequest}
 use Rattle.rr_protocol.specs.Ports.{Client, Server}
 use Rattle.rr_protocol.specs.State.{State, empty_hub, client_at, server_at, handle_at, active_at}
-use Rattle.rr_commands.specs.Run.{Run}
-use Rattle.rr_commands.specs.Step.{Step}
-use Rattle.rr_commands.specs.AnswerRule.{Event, is_active_of}
+use Rattle.rr_protocol.specs.Run.{Run}
+use Rattle.rr_protocol.specs.Step.{Step}
+use Rattle.rr_protocol.specs.AnswerRule.{Event, is_active_of}
 use Rattle.rr_laws.specs.Reached.{IsReached}
 use Rattle.rr_laws.specs.Apart.{IsApart}
 use Rattle.rr_laws.specs.Following.{WasReceived, NumbersFit, Follows}

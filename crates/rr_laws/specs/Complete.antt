@@ -1,4 +1,4 @@
--- Which messages have as many elements as were asked for, in every state that a run reaches.
+-- The messages that have as many elements as were loaned, in every state that a run reaches.
 use Rattle.std.specs.Prelude.{◌≡◌, ℕ, true, Some}
 use Rattle.std.specs.List.{AllByRecursion}
 use Rattle.std.specs.Ordering.{nat_cmp}
@@ -22,7 +22,8 @@ module _ {Q QH P PH : Type 0} where
 
 -- such is each handle's message, and every message in a list is complete
 pub record AreComplete {Q QH P PH : Type 0} (handles : fin_map.FinMap nat_cmp (Handle Q QH P PH))
-    (requests : Lists request_key_cmp (RequestMessage Q QH)) (responses : Lists response_key_cmp (ResponseMessage P PH)) : Type 0 where
+    (requests : Lists request_key_cmp (RequestMessage Q QH))
+    (responses : Lists response_key_cmp (ResponseMessage P PH)) : Type 0 where
   pub in_handles : (n : ℕ) (h : Handle Q QH P PH) → fin_map.get handles n ≡ Some h → HasComplete h
   pub in_requests : (key : RequestKey) → AllByRecursion (λ m. is_complete m.content ≡ true) (at requests key)
   pub in_responses : (key : ResponseKey) → AllByRecursion (λ m. is_complete m.content ≡ true) (at responses key)

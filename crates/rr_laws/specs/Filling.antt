@@ -1,4 +1,5 @@
--- How the pool of a hub's one client is filled: which of its requests live, and what stands in the list to the server that is served.
+-- Filling the pool of a hub's only client: which of its requests are live, and which are in the list to the server
+-- that is being served.
 use Rattle.std.specs.Prelude.{◌≡◌, ◌≢◌, ◌<◌, ◌≤◌, ◌⊎◌, ℕ, Bool, true, false, ◌&&◌, ◌==◌, List, [], ◌∷◌, ◌++◌, length, Some, IsSomeAnd, nat_eq}
 use Rattle.std.specs.List.{AllByRecursion, IsDistinct, list_any}
 use Rattle.std.specs.FinMap as fin_map
@@ -30,13 +31,14 @@ is_about n (ReceivedResponse a) = false
 module _ {Q QH P PH K : Type 0} (s : State Q QH P PH K) where
   -- a handle under a number that may be, is about the request
   abbrev pub IsHeld : (ℕ → Type 0) → ℕ → Type 0
-  IsHeld May n = (j : ℕ) × (role : Role) × May j × (fin_map.get (roles_of s.handles) j ≡ Some role) × (is_about n role ≡ true)
+  IsHeld May n =
+      (j : ℕ) × (role : Role) × May j × (fin_map.get (roles_of s.handles) j ≡ Some role) × (is_about n role ≡ true)
 
-  -- the request stands in a list
+  -- the request is in a list
   abbrev pub IsListed : ℕ → Type 0
   IsListed n = (key : RequestKey) × (list_any (λ m. is_request n (question_of m)) (at s.requests key) ≡ true)
 
-  -- the request lives: it stands in a handle under a number that may be, or in a list
+  -- the request is live: it is in a handle under a permitted number, or in a list
   abbrev pub Stands : (ℕ → Type 0) → ℕ → Type 0
   Stands May n = IsHeld May n ⊎ IsListed n
 
@@ -48,7 +50,8 @@ module _ {Q QH P PH K : Type 0} (s : State Q QH P PH K) where
   abbrev pub LivesElsewhere : ℕ → Type 0
   LivesElsewhere n = Stands (λ j. j ≢ n) n
 
-  -- so many requests of the client live, which fit into its pool of this size; nobody else sent one
+  -- this number of requests of the client are live, and fit into its pool of this size; no other client sent a
+  -- request
   pub record IsHolding (limits : Limits) (pool count : ℕ) : Type 0 where
     pub reached : IsReached s
     pub limits_are : s.limits ≡ limits
@@ -60,7 +63,7 @@ module _ {Q QH P PH K : Type 0} (s : State Q QH P PH K) where
     pub counted : length numbers ≡ count
     pub fits : count ≤ pool
 
-  -- this is the newest server, and these requests stand in the list to it
+  -- this is the newest server, and these requests are in the list to it
   pub record IsServed (server : ℕ) (entries : List (RequestMessage Q QH)) : Type 0 where
     pub older : List (Server K)
     pub newest : Server K

@@ -1,4 +1,4 @@
--- Who left: what holds of the numbers of ports, and of those that are listed as left.
+-- The ports that left: facts of the numbers of ports, and of those that are listed as left.
 use Rattle.std.specs.Prelude.{◌≡◌, ℕ, ◌<◌, true, false, List}
 use Rattle.std.specs.List.{AllByRecursion}
 use Rattle.std.specs.Ordering.{nat_cmp}
@@ -13,8 +13,9 @@ pub record IsGone {K : Type 0} (clients : List (Client K)) (servers : List (Serv
   pub no_client : has_client clients n ≡ false
   pub no_server : has_server servers n ≡ false
 
--- no number is a client's and a server's, and who is listed as left is gone
-pub record LeftFit {K : Type 0} (clients : List (Client K)) (servers : List (Server K)) (expired : Lists nat_cmp ℕ) (next : ℕ) : Type 0 where
+-- no number is both a client's and a server's, and each port that is listed as left is no longer connected
+pub record LeftFit {K : Type 0} (clients : List (Client K)) (servers : List (Server K)) (expired : Lists nat_cmp ℕ)
+    (next : ℕ) : Type 0 where
   pub one_kind : (n : ℕ) → has_client clients n ≡ true → has_server servers n ≡ false
   pub gone : (receiver : ℕ) → AllByRecursion (IsGone clients servers next) (at expired receiver)
 

@@ -1,8 +1,8 @@
--- What a handle is, without what its message says.
+-- Roles: handles without the content of their messages.
 use Rattle.std.specs.Prelude.{ℕ, Bool, false, ◌&&◌, ◌==◌, Option, Some, None, option_and_then}
 use Rattle.std.specs.Ordering.{nat_cmp}
 use Rattle.std.specs.FinMap as fin_map
-use Rattle.rr_map_laws.specs.Maps.{map_values}
+use Rattle.rr_table.specs.Maps.{map_values}
 use Rattle.rr_protocol.specs.Keys.{RequestKey, ResponseKey}
 use Rattle.rr_protocol.specs.Messages.{RequestMessage, ResponseMessage, Handle, RequestMutUninit, RequestMut, PendingResponse, ActiveRequest, ResponseMutUninit, ResponseMut, Response}
 
@@ -23,7 +23,8 @@ pub record Answer : Type 0 where
   pub client : ℕ
   pub channel : ℕ
 
--- a handle without content: a request on loan, one that waits for answers, one that a server received, a response on loan, and one that a client received
+-- a handle without content: a request on loan, one that waits for answers, one that a server received, a response on
+-- loan, and one that a client received
 pub data Role : Type 0 where
   LoanedRequest : Question → Role
   SentRequest : Question → Role
@@ -80,7 +81,7 @@ subject_of (ReceivedRequest server q) = q
 subject_of (LoanedResponse a) = answered a
 subject_of (ReceivedResponse a) = answered a
 
--- the number under which a role stands: its message's, but an active request has a number of its own, here n
+-- the number of a role: its message's, but an active request has a number of its own, here n
 abbrev pub number_of : ℕ → Role → ℕ
 number_of n (LoanedRequest q) = q.number
 number_of n (SentRequest q) = q.number

@@ -2,8 +2,11 @@
 ghost use Rattle.rr_laws.specs.Bound.{HoldsOfRuns};
 ghost use Rattle.rr_laws.specs.Unreduced.{FindsMemory, FindsChannel};
 
-/// Whatever is run on an empty hub, no loan of up to the initial slice length from a pool of the worst-case size is then answered with `OutOfMemory`, and a loan of a request that is not refused finds a free channel, whatever the pool's size.
+/// After any run from an empty hub, no loan of up to the initial slice length from a pool of the worst-case size is
+/// answered with `OutOfMemory`, and a loan of a request that is not refused finds a free channel, whatever the pool's
+/// size.
 pub fn unreduced_pool<T: Default, H: Default, K>()
-    ensures memory { HoldsOfRuns {K = K} T.is_default H.is_default (λ limits s. FindsMemory T.is_default H.is_default limits s) }
+    ensures memory { HoldsOfRuns {K = K} T.is_default H.is_default
+        (λ limits s. FindsMemory T.is_default H.is_default limits s) }
     ensures channel { HoldsOfRuns {K = K} T.is_default H.is_default (λ limits s. FindsChannel s) }
 {}

@@ -2,7 +2,9 @@
 ghost use Rattle.rr_laws.specs.History.{HoldsOfFamilies};
 ghost use Rattle.rr_laws.specs.Whole.{NeverRunsDry};
 
-/// Whatever is run on an empty hub, no loan of up to the initial slice length is answered with `OutOfMemory`, from a client or from an active request of a server that was created with a pool of the worst-case size.
+/// In any run from an empty hub, no loan of up to the initial slice length is answered with `OutOfMemory`, from a
+/// client or from an active request of a server that was created with a pool of the worst-case size.
 pub fn whole_pool<T: Default, H: Default, K>()
-    ensures { HoldsOfFamilies {K = K} T.is_default H.is_default (λ family limits history. NeverRunsDry family limits history) }
+    ensures { HoldsOfFamilies {K = K} T.is_default H.is_default
+        (λ family limits history. NeverRunsDry family limits history) }
 {}

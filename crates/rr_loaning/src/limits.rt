@@ -1,4 +1,4 @@
-//! What limits the loans of a port.
+//! The loan limits of a port.
 ghost use Rattle.std.specs.Prelude.{◌≡◌, ◌||◌, false, nat_le};
 ghost use Rattle.rr_protocol.specs.Loans.{is_too_long};
 ghost use Rattle.rr_store.specs.Ports.{connected_of};
@@ -16,9 +16,11 @@ pub fn is_too_long<K: Drop>(port: &Port<K>, len: usize) -> bool
     }
 }
 
-/// Returns whether an active request with so many responses on loan has as many as it may, or the server with `all` has.
+/// Returns whether an active request with `loans` responses on loan, or its server with `all` of them, is at its loan
+/// limit.
 pub fn is_at_loan_limit<K: Drop>(server: &ServerPort<K>, loans: usize, all: usize) -> bool
-    ensures { result ≡ (nat_le server.now.max_loaned_responses_per_request loans || nat_le server.now.max_loaned_responses all) }
+    ensures { result ≡ (nat_le server.now.max_loaned_responses_per_request loans || nat_le
+        server.now.max_loaned_responses all) }
 {
     server.max_loaned_responses_per_request <= loans || server.max_loaned_responses <= all
 }

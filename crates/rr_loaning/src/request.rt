@@ -17,13 +17,13 @@ use rr_protocol::{BackpressureFn, LoanError};
 use rr_slots::{Body, WriteBody};
 use rr_store::{HandleEntry, HandleId, RequestDetails, Stage, Store};
 
-/// Loans a request of `len` elements, a length that the body's family takes, from a client whose value lives. It has the next
-/// number, of which one remains, any free channel and a default user header.
+/// Loans a request of `len` elements, a length that the body's family takes, from a client whose value lives. It has
+/// the next number, of which one remains, any free channel and a default user header.
 ///
 /// # Errors
 ///
 /// - `ExceedsMaxLoanSize` for a slice that is longer than a static pool has room for.
-/// - `ExceedsMaxLoans` if the client has as many requests on loan as it may.
+/// - `ExceedsMaxLoans` if the client has its maximum of requests on loan.
 /// - `OutOfMemory` if the client's live requests fill its pool, or a longer slice found no memory.
 ///
 /// The store is unchanged then.
@@ -40,8 +40,10 @@ pub fn loan_request<
     requires number { 0 < numbers_left (state_of (opened store.old)) }
     requires len { IsTrue (takes_len QB.family len) }
     ensures core { IsCore (opened store.new) }
-    ensures loans { LoansRequest QH.is_default (state_of (opened store.old)) client len result (state_of (opened store.new)) }
-    ensures unreduced { ClientHasPool store.old.limits (state_of (opened store.old)) client len → result ≢ Err LoanError.OutOfMemory }
+    ensures loans { LoansRequest QH.is_default (state_of (opened store.old)) client len result
+        (state_of (opened store.new)) }
+    ensures unreduced { ClientHasPool store.old.limits (state_of (opened store.old)) client len
+        → result ≢ Err LoanError.OutOfMemory }
 {
     let index = store.clients.index_of(client);
     if let Some(refusal) = request_loan_limit(store, index, len) {
@@ -64,8 +66,8 @@ pub fn loan_request<
     }
 }
 
-/// Returns the first reason against one more request of `len` elements: it is too long for the client, or the client has as
-/// many on loan as it may. Returns `None` if there is no such reason.
+/// Returns the first reason that refuses a loan of a request of `len` elements: it is too long for the client, or the
+/// client has its maximum of requests on loan. Returns `None` if there is no such reason.
 #[inline(always)]
 pub fn request_loan_limit<
     QB: Body,
@@ -75,8 +77,10 @@ pub fn request_loan_limit<
     K: BackpressureFn,
 >(store: &Store<QB, QH, PB, PH, K>, index: usize, len: usize) -> Option<LoanError>
     requires index { index < length store.now.clients.ports }
-    requires sender { IsSomeAnd (slice_get store.now.clients.ports index) (λ c. c.port.sender < length store.now.clients.senders) }
-    ensures { IsSomeAnd (slice_get (opened store.now).clients index) (λ c. result ≡ request_loan_limit (opened store.now) c len) }
+    requires sender { IsSomeAnd (slice_get store.now.clients.ports index)
+        (λ c. c.port.sender < length store.now.clients.senders) }
+    ensures { IsSomeAnd (slice_get (opened store.now).clients index)
+        (λ c. result ≡ request_loan_limit (opened store.now) c len) }
 {
     let port = &store.clients.port(index).port;
     if is_too_long(port, len) {

@@ -20,13 +20,13 @@ use rr_slots::{Body, WriteBody};
 use rr_store::{HandleEntry, HandleId, ResponseDetails, Stage, Store};
 use rr_table::Place;
 
-/// Loans a response of `len` elements, a length that the body's family takes, from the active request that stands in this
-/// place. It has the next number, of which one remains, and a default user header, and goes to the request's channel.
+/// Loans a response of `len` elements, a length that the body's family takes, from the active request in this place.
+/// It has the next number, of which one remains, and a default user header, and goes to the request's channel.
 ///
 /// # Errors
 ///
 /// - `ExceedsMaxLoanSize` for a slice that is longer than a static pool has room for.
-/// - `ExceedsMaxLoans` if the active request, or its server, has as many responses on loan as it may.
+/// - `ExceedsMaxLoans` if the active request, or its server, has its maximum of responses on loan.
 /// - `OutOfMemory` if the server's live responses fill its pool, or a longer slice found no memory.
 ///
 /// The store is unchanged then.
@@ -49,8 +49,10 @@ pub fn loan_response_at<
     requires number { 0 < numbers_left (state_of (opened store.old)) }
     requires len { IsTrue (takes_len PB.family len) }
     ensures core { IsCore (opened store.new) }
-    ensures loans { LoansResponse PH.is_default (state_of (opened store.old)) number len result (state_of (opened store.new)) }
-    ensures unreduced { ServerHasPool store.old.limits (state_of (opened store.old)) number len → result ≢ Err LoanError.OutOfMemory }
+    ensures loans { LoansResponse PH.is_default (state_of (opened store.old)) number len result
+        (state_of (opened store.new)) }
+    ensures unreduced { ServerHasPool store.old.limits (state_of (opened store.old)) number len
+        → result ≢ Err LoanError.OutOfMemory }
 {
     let active = store.table.at(number, place);
     let (server, loans) = match active.stage.active() {
@@ -82,8 +84,9 @@ pub fn loan_response_at<
     }
 }
 
-/// Returns the first reason against one more response of `len` elements: it is too long for the server, or as many are on
-/// loan as may be, from the server or from an active request that has `loans`. Returns `None` if there is no such reason.
+/// Returns the first reason that refuses a loan of a response of `len` elements: it is too long for the server, or
+/// the server, or an active request with `loans` responses on loan, has its maximum of them. Returns `None` if there
+/// is no such reason.
 #[inline(always)]
 pub fn response_loan_limit<
     QB: Body,
@@ -93,8 +96,10 @@ pub fn response_loan_limit<
     K: BackpressureFn,
 >(store: &Store<QB, QH, PB, PH, K>, index: usize, len: usize, loans: usize) -> Option<LoanError>
     requires index { index < length store.now.servers.ports }
-    requires sender { IsSomeAnd (slice_get store.now.servers.ports index) (λ s. s.port.sender < length store.now.servers.senders) }
-    ensures { IsSomeAnd (slice_get (opened store.now).servers index) (λ s. result ≡ response_loan_limit (opened store.now) s len loans) }
+    requires sender { IsSomeAnd (slice_get store.now.servers.ports index)
+        (λ s. s.port.sender < length store.now.servers.senders) }
+    ensures { IsSomeAnd (slice_get (opened store.now).servers index)
+        (λ s. result ≡ response_loan_limit (opened store.now) s len loans) }
 {
     let server = store.servers.port(index);
     if is_too_long(&server.port, len) {
@@ -124,7 +129,8 @@ pub fn new_response_details<
 ) -> ResponseDetails
     requires sender { sender < length (opened store.now).client_senders }
     requires slot { slot < length (sender_of sender (opened store.now).client_senders).messages.held }
-    ensures { result ≡ response_loan_details_of server active_request sender (request_details (opened store.now) sender slot) slot store.now.next }
+    ensures { result ≡ response_loan_details_of server active_request sender
+        (request_details (opened store.now) sender slot) slot store.now.next }
 {
     let request = store.clients.details(sender, slot);
     ResponseDetails {

@@ -6,11 +6,11 @@ use Rattle.rr_locked.specs.Sums.{worth}
 use Rattle.rr_locked.proofs.Digits.{worth-append}
 use Rattle.rr_locked.specs.declared.receipt.Receipt.{Receipt}
 use Rattle.rr_locked.specs.Machine.{HubState, HubCommand, HubReply, Entry, Step, LeadsTo}
-use Rattle.rr_runner.specs.Numbers.{IsZero, follow_strategy}
+use Rattle.rr_run.specs.Numbers.{IsZero, follow_strategy}
 use Rattle.rr_locked.specs.Receipts.{entry_number, history_numbers, receipt_numbers, joined}
 use Rattle.rr_locked.specs.Seats.{AllBelow, AllAbove, Rises, IsSeat}
 use Rattle.rr_locked.specs.Books.{IsKept}
-use Rattle.rr_commands.proofs.Continuing.{leads_on}
+use Rattle.rr_protocol.proofs.Continuing.{leads_on}
 
 zero-right : (n : ℕ) → n + 0 ≡ n
 zero-right n = omega arith

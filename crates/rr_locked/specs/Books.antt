@@ -1,4 +1,4 @@
--- What a book keeps.
+-- The contents of a book.
 use Rattle.std.specs.Prelude.{◌≡◌, ◌≢◌, ⊤, ℕ, ◌+◌, ◌^◌, ◌<◌, ◌≤◌, List, [], ◌∷◌, length, slice_get, Some, None, Result, Ok, Err}
 use Rattle.rr_protocol.specs.declared.limits.Limits.{Limits}
 use Rattle.rr_protocol.specs.declared.error.HubCreateError.{HubCreateError}
@@ -8,7 +8,7 @@ use Rattle.rr_locked.specs.declared.receipt.Receipt.{Receipt}
 use Rattle.rr_locked.specs.Machine.{HubState, Entry, LeadsTo}
 use Rattle.rr_locked.specs.Receipts.{opening_number, history_numbers}
 
--- what a contract sees of a hub that threads share
+-- a hub that threads share, as contracts see it
 pub record Start : Type 0 where
   pub limits : Limits
   pub node_id : ℕ
@@ -16,7 +16,7 @@ pub record Start : Type 0 where
 abbrev pub start : Limits → ℕ → Start
 start limits node_id = record { limits = limits; node_id = node_id }
 
--- what a contract sees of a book: its limits and node id, its history, and how many seats it made
+-- a book as contracts see it: its limits and node id, its history, and the number of seats that it made
 pub record Log : Type 0 where
   pub limits : Limits
   pub node_id : ℕ
@@ -43,8 +43,9 @@ CreatesLocked limits node_id (Err error) = hub_refusal limits ≡ Some error
 abbrev pub IsLegal : Limits → ℕ → List Entry → Type 0
 IsLegal limits node_id history = (now : HubState) × LeadsTo limits node_id history now
 
--- there are 2 ^ 20 + 2 parts: one for each seat, one for the opening, and one that stays
-pub record IsKept (now : HubState) (limits : Limits) (node_id : ℕ) (history : List Entry) (made total parts amount cut : ℕ) : Type 0 where
+-- there are 2 ^ 20 + 2 parts: one for each seat, one for the opening, and one that the book keeps
+pub record IsKept (now : HubState) (limits : Limits) (node_id : ℕ) (history : List Entry)
+    (made total parts amount cut : ℕ) : Type 0 where
   pub makes_hub : hub_refusal limits ≡ None
   pub legal : LeadsTo limits node_id history now
   pub counted : total ≡ worth 84 (opening_number limits node_id ∷ history_numbers 0 history)
@@ -54,7 +55,7 @@ pub record IsKept (now : HubState) (limits : Limits) (node_id : ℕ) (history : 
   pub whole : cut ≡ 1048578
   pub few : length history < 2 ^ 64
 
--- each receipt stands in the history at its place
+-- each receipt is in the history at its place
 abbrev pub AllStand : List Entry → List Receipt → Type 0
 AllStand history [] = ⊤
 AllStand history (r ∷ rs) = (slice_get history r.place ≡ Some (r.command, r.reply)) × AllStand history rs
@@ -64,12 +65,13 @@ abbrev pub NoneAt : ℕ → List Receipt → Type 0
 NoneAt place [] = ⊤
 NoneAt place (r ∷ rs) = (r.place ≢ place) × NoneAt place rs
 
--- no two have one place
+-- no two receipts have the same place
 abbrev pub AreApart : List Receipt → Type 0
 AreApart [] = ⊤
 AreApart (r ∷ rs) = NoneAt r.place rs × AreApart rs
 
--- the receipts are the entries of the history: each stands at its place, no two have one place, and there are as many
+-- the receipts are the entries of the history: each is in it at its place, no two have the same place, and their
+-- number is the history's length
 pub record IsWhole (hub : Start) (receipts : List Receipt) (book : Log) : Type 0 where
   pub stand : AllStand book.history receipts
   pub apart : AreApart receipts

@@ -5,8 +5,8 @@ use Rattle.std.specs.Coded.{Coded, coded_ℕ, coded×, coded⊎}
 use denote.Builtin.{u64}
 use Rattle.rr_protocol.specs.declared.limits.Limits.{Limits}
 use Rattle.rr_protocol.specs.Codes.{limits_code}
-use Rattle.rr_commands.specs.contracts.command.Command as command_type
-use Rattle.rr_commands.specs.contracts.reply.Reply as reply_type
+use Rattle.rr_protocol.specs.contracts.command.Command as command_type
+use Rattle.rr_protocol.specs.contracts.reply.Reply as reply_type
 use Rattle.rr_locked.specs.Numbers.{number}
 use Rattle.rr_protocol.specs.contracts.no_handler.NoHandler as no_handler_type
 use Rattle.rr_locked.specs.declared.receipt.Receipt.{Receipt}
@@ -36,7 +36,7 @@ entry_number place command reply = number mark_code (inr (place, (command, reply
 unfoldable pub opening_number : Limits → ℕ → ℕ
 opening_number limits node_id = number mark_code (inl (limits, node_id))
 
--- the numbers of the entries of a history whose first stands at this place
+-- the numbers of the entries of a history whose first entry is at this place
 abbrev pub history_numbers : ℕ → List Entry → List ℕ
 history_numbers place [] = []
 history_numbers place (e ∷ es) = entry_number place e.0 e.1 ∷ history_numbers (place + 1) es

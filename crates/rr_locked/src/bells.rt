@@ -1,15 +1,15 @@
-//! Bells, by which one thread lets another one know that there may be something to receive.
+//! Bells, by which one thread notifies another that there may be something to receive.
 use crossbeam_utils::CachePadded;
 use std::hint::spin_loop;
 use std::sync::atomic::{AtomicU64, Ordering};
 use std::thread::yield_now;
 
-/// How often a bell is read before the other threads of the processor get a turn.
+/// How often a bell is read before the thread yields its processor.
 const READINGS: u64 = 1024;
 
-/// A counter that one thread raises and another one reads. Nothing is proved of what it shows.
+/// A counter that one thread increments and another polls. Nothing is proved of its value.
 ///
-/// It has its cache lines to itself, so that who waits at it takes no line from who works.
+/// It has cache lines of its own, so a polling thread doesn't take a line from a working one.
 ///
 /// # Examples
 ///
@@ -42,12 +42,12 @@ impl Bell {
         self.rings.fetch_add(1, Ordering::SeqCst);
     }
 
-    /// Returns how often it has rung.
+    /// Returns how many times the bell has rung.
     pub fn rings(&self) -> u64 {
         self.rings.load(Ordering::SeqCst)
     }
 
-    /// Reads the bell until it has rung again since it had rung so often, at most so many times. Returns how many readings are
+    /// Polls the bell until its count differs from `rings`, at most `readings` times. Returns how many readings are
     /// left, or `None` if it has not rung.
     pub fn wait(&self, rings: u64, readings: u64) -> Option<u64> {
         for reading in 0..readings {

@@ -1,6 +1,6 @@
 //! A hub with the history of its calls.
 ghost use Rattle.std.specs.Prelude.{◌≡◌, ◌≢◌, ℕ, ◌+◌, ◌*◌, ◌^◌, ◌<◌, ◌≤◌, [], ◌∷◌, ◌++◌, IfSome, IfNone, length, IfOk, OnErr};
-ghost use Rattle.rr_commands.specs.AnswerRule.{KeepsAnswerRule};
+ghost use Rattle.rr_protocol.specs.AnswerRule.{KeepsAnswerRule};
 ghost use Rattle.rr_locked.specs.Sums.{worth};
 ghost use Rattle.rr_locked.specs.Receipts.{receipt, opening_number, history_numbers};
 ghost use Rattle.rr_locked.specs.Books.{IsLegal, CreatesBook, OpensBook};
@@ -10,8 +10,7 @@ use crate::opening::Opening;
 use crate::receipt::Receipt;
 use crate::seat::Seat;
 use crate::sums::add_for;
-use rr_commands::Reply;
-use rr_protocol::{HubCreateError, Limits, UniqueNodeId};
+use rr_protocol::{HubCreateError, Limits, Reply, UniqueNodeId};
 use std::alloc::Global;
 use std::marker::Model;
 use std::sync::ledger::{self, Blank, Ledger, Share};
@@ -19,10 +18,11 @@ use std::sync::ledger::{self, Blank, Ledger, Share};
 /// The most seats that a book makes.
 pub const MOST_SEATS: u64 = 1_048_576;
 
-/// How many parts the blank of a book has: one for each seat, one for the opening, and one that stays.
+/// The number of parts of a book's blank: one for each seat, one for the opening, and one that the book keeps.
 pub const PARTS: u64 = MOST_SEATS + 2;
 
-/// A hub of numbers with the history of its calls. Contracts see its limits, its node id, the history and the number of seats made.
+/// A hub of numbers with the history of its calls. Contracts see its limits, its node id, the history and the number
+/// of seats made.
 ///
 /// Its history is a run of the message machine at every moment. Each call waits for nobody. Not in iceoryx2.
 ///
@@ -69,7 +69,8 @@ impl<L: Ledger> Model for Book<L> {
 
     ghost view = { λ b. log b.limits b.node_id.0 b.history.items b.made };
 
-    ghost invariant = { λ b. IsKept b.runner b.limits b.node_id.0 b.history.items b.made b.tokens.total b.rest.parts b.rest.amount L.parts };
+    ghost invariant = { λ b. IsKept b.runner b.limits b.node_id.0 b.history.items b.made b.tokens.total b.rest.parts
+        b.rest.amount L.parts };
 }
 
 impl<L: Ledger> Book<L> {
@@ -110,13 +111,13 @@ impl<L: Ledger> Book<L> {
         ))
     }
 
-    /// Makes a book over a hub without ports, with an empty history. The blank is to have `PARTS` parts, and is spent either way.
-    /// Takes no memory, so `OutOfMemory` never comes. Not in iceoryx2.
+    /// Makes a book over a hub without ports, with an empty history. The blank must have `PARTS` parts, and is
+    /// consumed even on an error. Takes no memory, so it never returns `OutOfMemory`. Not in iceoryx2.
     ///
     /// # Errors
     ///
     /// - `ZeroLimit` if a limit is below its least value.
-    /// - `LimitsTooLarge` if a worst-case size is more than a `usize` counts.
+    /// - `LimitsTooLarge` if a worst-case size overflows a `usize`.
     pub fn new(
         alloc: Global,
         limits: Limits,
@@ -152,8 +153,9 @@ impl<L: Ledger> Book<L> {
         self.made
     }
 
-    /// Returns the calls with their replies. They are a run of the message machine from the empty hub, and keep the answer rule: a
-    /// response reaches only the request that it answers, at most once, and in the order in which its server sent it.
+    /// Returns the calls with their replies. They are a run of the message machine from the empty hub, and keep the
+    /// answer rule: a response reaches only the request that it answers, at most once, and in the order in which its
+    /// server sent it.
     pub fn history(&self) -> &[(HubCommand, HubReply)]
         ensures history { result.now ≡ self.now.history }
         ensures legal { IsLegal self.now.limits self.now.node_id result.now }
@@ -178,13 +180,16 @@ impl<L: Ledger> Book<L> {
 
     /// Carries out a command, and returns its reply.
     ///
-    /// The command and the reply are appended to the history, and with their place in it to the seat. If no memory is found for
-    /// them, or the runner finds none, returns `NoMemory`, and neither the book nor the seat has changed. Takes constant time
-    /// beside the command's own, but for the growth of both lists, which is amortised. Not in iceoryx2.
+    /// Appends the command and the reply to the history, and with their place in it to the seat. If there is no
+    /// memory for them, or the runner finds none, returns `NoMemory`, and neither the book nor the seat has changed.
+    /// Takes constant time in addition to the command's own, amortised over the growth of both lists. Not in
+    /// iceoryx2.
     pub fn apply(&mut self, seat: &mut Seat<L>, command: HubCommand) -> HubReply
         ensures refused { result ≡ Reply.NoMemory → (self.new ≡ self.old) × (seat.new ≡ seat.old) }
-        ensures book { result ≢ Reply.NoMemory → self.new ≡ record self.old { history = self.old.history ++ (command, result) ∷ [] } }
-        ensures seat { result ≢ Reply.NoMemory → seat.new ≡ seat.old ++ receipt (length self.old.history) command result ∷ [] }
+        ensures book { result ≢ Reply.NoMemory → self.new
+            ≡ record self.old { history = self.old.history ++ (command, result) ∷ [] } }
+        ensures seat { result ≢ Reply.NoMemory → seat.new
+            ≡ seat.old ++ receipt (length self.old.history) command result ∷ [] }
     {
         let place = self.history.len() as u64;
         if seat.next > place
@@ -215,13 +220,14 @@ impl<L: Ledger> Book<L> {
         reply
     }
 
-    /// Shows what a share counts that has every part but those of the book. Changes nothing.
+    /// Proves the count of a share that has every part except the book's. Changes nothing.
     pub(crate) fn settle(&mut self, all: Share<L>)
         requires { 0 < all.parts }
         ensures same { self.new ≡ self.old }
         ensures seats { self.new.made ≤ 1048576 }
         ensures few { length self.new.history < 2 ^ 64 }
-        ensures whole { all.parts ≡ self.old.made + 1 → all.amount ≡ worth 84 (opening_number self.old.limits self.old.node_id ∷ history_numbers 0 self.old.history) }
+        ensures whole { all.parts ≡ self.old.made + 1 → all.amount
+            ≡ worth 84 (opening_number self.old.limits self.old.node_id ∷ history_numbers 0 self.old.history) }
     {
         let mut all = all;
         let parts = MOST_SEATS + 1 - self.made;

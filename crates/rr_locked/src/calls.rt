@@ -3,16 +3,16 @@ use crate::bells::Bell;
 use crate::seat::Seat;
 use crate::submit::Submit;
 use crate::worker_error::WorkerError;
-use rr_commands::{Command, Reply};
+use rr_protocol::{Command, Reply};
 use std::sync::Wait;
 use std::sync::ledger::Ledger;
 
-/// Sends a number: as a request of a client, or as a response to an active request. Returns the number of the pending response, or
-/// of the response. Not in iceoryx2.
+/// Sends a number: as a request of a client, or as a response to an active request. Returns the number of the pending
+/// response, or of the response. Not in iceoryx2.
 ///
 /// # Errors
 ///
-/// - `NoMemory` if no memory was found for its receipt.
+/// - `NoMemory` if there was no memory for its receipt.
 /// - `GaveUp` if the hub refuses to send it.
 pub fn send_copy<L: Ledger, S: Submit<L>, R: Wait>(
     rt: &R,
@@ -27,15 +27,16 @@ pub fn send_copy<L: Ledger, S: Submit<L>, R: Wait>(
     }
 }
 
-/// Receives by a server or a pending response until something comes. Returns the number of the active request or of the response.
+/// Receives by a server or a pending response until a message arrives. Returns the number of the active request or of
+/// the response.
 ///
-/// It reads the bell before each receive, so that one that rings between a receive and the wait after it isn't missed. A turn is
+/// It reads the bell before each receive, so a ring between a receive and the wait after it isn't missed. A turn is
 /// one reading of the bell. Not in iceoryx2.
 ///
 /// # Errors
 ///
-/// - `NoMemory` if no memory was found for a receipt.
-/// - `GaveUp` if nothing came within so many turns, or the hub refuses to receive.
+/// - `NoMemory` if there was no memory for a receipt.
+/// - `GaveUp` if nothing arrived within `turns` turns, or the hub refuses to receive.
 pub fn receive<L: Ledger, S: Submit<L>, R: Wait>(
     rt: &R,
     hub: &S,
@@ -56,11 +57,11 @@ pub fn receive<L: Ledger, S: Submit<L>, R: Wait>(
     Err(WorkerError::GaveUp)
 }
 
-/// Returns the number that a message says. Not in iceoryx2.
+/// Returns the number in a message. Not in iceoryx2.
 ///
 /// # Errors
 ///
-/// - `NoMemory` if no memory was found for a copy of it.
+/// - `NoMemory` if there was no memory for a copy of it.
 /// - `GaveUp` if the hub has no such message.
 pub fn payload<L: Ledger, S: Submit<L>, R: Wait>(
     rt: &R,
@@ -82,7 +83,7 @@ pub fn payload<L: Ledger, S: Submit<L>, R: Wait>(
 ///
 /// # Errors
 ///
-/// - `NoMemory` if no memory was found for its receipt.
+/// - `NoMemory` if there was no memory for its receipt.
 /// - `GaveUp` if nothing has this number.
 pub fn release<L: Ledger, S: Submit<L>, R: Wait>(
     rt: &R,
@@ -96,14 +97,14 @@ pub fn release<L: Ledger, S: Submit<L>, R: Wait>(
     }
 }
 
-/// Receives a response to a pending response, and releases both. Returns the number that it says.
+/// Receives a response to a pending response, and releases both. Returns the response's number.
 ///
 /// It waits as `receive` does. Not in iceoryx2.
 ///
 /// # Errors
 ///
-/// - `NoMemory` if no memory was found for a receipt, or for a copy of the number.
-/// - `GaveUp` if nothing came within so many turns, or the hub refuses a call.
+/// - `NoMemory` if there was no memory for a receipt, or for a copy of the number.
+/// - `GaveUp` if nothing arrived within `turns` turns, or the hub refuses a call.
 pub fn take_response<L: Ledger, S: Submit<L>, R: Wait>(
     rt: &R,
     hub: &S,

@@ -1,5 +1,5 @@
-//! A hub that threads share: a lock round a runner with a history. Each caller has a receipt for each of its calls, and all receipts
-//! together are one history of the message machine.
+//! A hub that threads share: a lock around a runner with a history. Each caller has a receipt for each of its calls,
+//! and all receipts together are one history of the message machine.
 #![tactic(auto)]
 
 mod bells;

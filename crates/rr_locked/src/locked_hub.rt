@@ -12,10 +12,10 @@ use std::marker::Model;
 use std::sync::ledger::{Blank, Ledger};
 use std::sync::{Mutex, Wait};
 
-/// A book under a lock, and beside it its opening. Contracts see its limits and its node id.
+/// A book under a lock, and beside it the book's opening. Contracts see its limits and its node id.
 ///
-/// Threads share it by reference; each takes a seat, and submits commands by it. A seat is used with the hub that made it. Not in
-/// iceoryx2.
+/// Threads share it by reference; each takes a seat, and submits commands by it. A seat is used with the hub that
+/// made it. Not in iceoryx2.
 ///
 /// # Examples
 ///
@@ -58,13 +58,13 @@ impl<L: Ledger> Model for LockedHub<L> {
 }
 
 impl<L: Ledger> LockedHub<L> {
-    /// Makes a hub without ports, with an empty history. The blank is to have `PARTS` parts, and is spent either way. Takes no
-    /// memory, so `OutOfMemory` never comes. Not in iceoryx2.
+    /// Makes a hub without ports, with an empty history. The blank must have `PARTS` parts, and is consumed even on
+    /// an error. Takes no memory, so it never returns `OutOfMemory`. Not in iceoryx2.
     ///
     /// # Errors
     ///
     /// - `ZeroLimit` if a limit is below its least value.
-    /// - `LimitsTooLarge` if a worst-case size is more than a `usize` counts.
+    /// - `LimitsTooLarge` if a worst-case size overflows a `usize`.
     pub fn new(
         alloc: Global,
         limits: Limits,
@@ -104,8 +104,9 @@ impl<L: Ledger> LockedHub<L> {
         self.inside.lock(rt).seat()
     }
 
-    /// Ends the sharing, and returns the book. If no seat is missing, the receipts of the seats are the entries of its history: each
-    /// stands there at its place, no two have one place, and there are as many. Waits for nobody.
+    /// Ends the sharing, and returns the book. If no seat is missing, the receipts of the seats are the entries of
+    /// its history: each is in it at its place, no two have the same place, and their number is the history's length.
+    /// Waits for nobody.
     pub fn finish(self, seats: Vec<Seat<L>>) -> Book<L>
         ensures { length seats.items ≡ result.made → IsWhole self (joined seats.items) result }
     {

@@ -1,4 +1,4 @@
-//! What a hub was made with.
+//! The opening of a hub: its limits and its node id.
 ghost use Rattle.std.specs.Prelude.{◌≡◌, ◌*◌, ◌^◌};
 ghost use Rattle.rr_locked.specs.Receipts.{opening_number};
 

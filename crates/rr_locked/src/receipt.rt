@@ -1,7 +1,7 @@
 //! The receipt of a call.
 use crate::hub_command::{HubCommand, HubReply};
 
-/// A call: its place in the history, and what was asked and answered.
+/// A call: its place in the history, the command and the reply.
 ///
 /// # Examples
 ///
@@ -20,10 +20,10 @@ use crate::hub_command::{HubCommand, HubReply};
 /// ```
 #[derive(Drop)]
 pub struct Receipt {
-    /// How many calls stand before it in the history.
+    /// How many calls precede it in the history.
     pub place: u64,
-    /// What was asked.
+    /// The command.
     pub command: HubCommand,
-    /// What was answered.
+    /// The reply.
     pub reply: HubReply,
 }

@@ -9,7 +9,8 @@ use std::alloc::Global;
 use std::marker::Model;
 use std::sync::ledger::{Ledger, Share};
 
-/// One caller's right to submit commands to a hub, with the receipts of its calls. Contracts see the receipts. Not in iceoryx2.
+/// One caller's right to submit commands to a hub, with the receipts of its calls. Contracts see the receipts. Not in
+/// iceoryx2.
 ///
 /// # Examples
 ///
@@ -68,7 +69,7 @@ impl<L: Ledger> Seat<L> {
     }
 }
 
-/// Puts the shares of all seats together with this one.
+/// Joins the shares of all seats with this one.
 pub(crate) fn gather<L: Ledger>(share: Share<L>, seats: Vec<Seat<L>>) -> Share<L>
     ensures parts { result.parts ≡ share.parts + length seats.items }
     ensures amount { result.amount ≡ share.amount + worth 84 (receipt_numbers (joined seats.items)) }

@@ -35,19 +35,20 @@ use std::sync::ledger::Ledger;
 pub struct Plan {
     /// How many requests are sent and answered.
     pub rounds: u64,
-    /// How often a bell is read for one message before a worker gives up.
+    /// How often a worker polls the bell for one message before it gives up.
     pub turns: u64,
 }
 
-/// Sends the numbers from 0 on as requests of a client, as many as the plan has rounds, each after the response to the one before
-/// was received and released. Returns the sum of the responses, modulo 2^64.
+/// Sends the numbers from 0 on as requests of a client, as many as the plan has rounds, each after the previous
+/// response was received and released. Returns the sum of the responses, modulo 2^64.
 ///
 /// It rings the server's bell after each request, and waits at the client's. Not in iceoryx2.
 ///
 /// # Errors
 ///
 /// - `NoMemory` if a command found no memory.
-/// - `GaveUp` if a response did not come within the plan's turns, or a reply is not one that its command can have here.
+/// - `GaveUp` if a response did not arrive within the plan's turns, or a reply is not one that its command can have
+///   here.
 pub fn ask_all<L: Ledger, S: Submit<L>, R: Wait>(
     rt: &R,
     hub: &S,
@@ -63,7 +64,7 @@ pub fn ask_all<L: Ledger, S: Submit<L>, R: Wait>(
     Ok(sum)
 }
 
-/// Sends a number as a request, and receives the response. Returns what it says.
+/// Sends a number as a request, receives the response, and returns the response's number.
 fn ask<L: Ledger, S: Submit<L>, R: Wait>(
     rt: &R,
     hub: &S,
@@ -78,14 +79,15 @@ fn ask<L: Ledger, S: Submit<L>, R: Wait>(
     take_response(rt, hub, seat, &bells.client, pending, turns)
 }
 
-/// Answers as many requests of a server as the plan has rounds, each with the number after the one that was asked.
+/// Answers as many requests of a server as the plan has rounds, each with the request's number plus one.
 ///
 /// It waits at the server's bell, and rings the client's after each response. Not in iceoryx2.
 ///
 /// # Errors
 ///
 /// - `NoMemory` if a command found no memory.
-/// - `GaveUp` if a request did not come within the plan's turns, or a reply is not one that its command can have here.
+/// - `GaveUp` if a request did not arrive within the plan's turns, or a reply is not one that its command can have
+///   here.
 pub fn answer_all<L: Ledger, S: Submit<L>, R: Wait>(
     rt: &R,
     hub: &S,
@@ -100,7 +102,7 @@ pub fn answer_all<L: Ledger, S: Submit<L>, R: Wait>(
     Ok(())
 }
 
-/// Receives a request, and answers with the number after the one that it says.
+/// Receives a request, and answers with its number plus one.
 fn answer<L: Ledger, S: Submit<L>, R: Wait>(
     rt: &R,
     hub: &S,

@@ -1,4 +1,5 @@
-//! A log that exists in proofs alone. One pen adds entries to it, callers see beginnings of it, and no entry is kept in memory.
+//! A log that exists in proofs alone. One pen appends entries to it, callers see prefixes of it, and no entry is kept
+//! in memory.
 #![tactic(auto)]
 
 mod log;

@@ -9,32 +9,10 @@ use crate::pen::Pen;
 use crate::seen::Seen;
 use std::marker::Model;
 
-/// A log of entries, each with its caller. Contracts see which log it is.
+/// A log of entries, each with its caller. Contracts see its identity.
 ///
-/// It has no bytes, and its calls do nothing when they run. A log is shared by reference. An entry that is a value with bytes is only
-/// read. Not in iceoryx2.
-///
-/// # Examples
-///
-/// Adds an entry by each of two callers, and compares what they have seen (`rr_test_core::tests::logs`):
-///
-/// ```
-/// ghost use Rattle.std.specs.Prelude.{◌≡◌, [], ◌∷◌, map};
-///
-/// use rr_log::{Log, Pen};
-///
-/// fn two_entries() -> Pen<u64>
-///     ensures { map (λ entry. entry.1) result.entries ≡ 3 ∷ 5 ∷ [] }
-/// {
-///     let (log, mut pen) = Log::open();
-///     let mut first = log.caller();
-///     let mut second = log.caller();
-///     log.append(&mut pen, &mut first, &3);
-///     log.append(&mut pen, &mut second, &5);
-///     log.compare(&mut first, &mut second);
-///     pen
-/// }
-/// ```
+/// It has no bytes, and its calls do nothing when they run. A log is shared by reference. An entry that is a value
+/// with bytes is only read. Not in iceoryx2.
 pub struct Log<E> {
     name: Name<E>,
 }
@@ -59,14 +37,15 @@ impl<E> Log<E> {
         (Log { name }, pen)
     }
 
-    /// Makes a caller, which has seen nothing. Not in iceoryx2.
+    /// Makes a caller that has seen no entries. Not in iceoryx2.
     pub fn caller(&self) -> Seen<E>
         ensures { (result.log_id ≡ self.now) × (result.entries ≡ []) }
     {
         moves::enter(&self.name)
     }
 
-    /// Adds an entry of a caller, which has then seen all entries: what it had seen, entries of others, and this one. Not in iceoryx2.
+    /// Appends an entry of a caller, which has seen the whole log afterwards: the entries that it had seen, entries
+    /// of others, and this one. Not in iceoryx2.
     pub fn append(&self, pen: &mut Pen<E>, seen: &mut Seen<E>, entry: &E)
         requires pen { pen.old.log_id ≡ self.now }
         requires seen { seen.old.log_id ≡ self.now }
@@ -78,7 +57,7 @@ impl<E> Log<E> {
         moves::add(pen, seen, entry);
     }
 
-    /// Shows a caller all entries. Since it saw the log last, others alone added entries. Not in iceoryx2.
+    /// Shows a caller all entries. The new ones are all from other callers. Not in iceoryx2.
     pub fn catch_up(&self, pen: &mut Pen<E>, seen: &mut Seen<E>)
         requires pen { pen.old.log_id ≡ self.now }
         requires seen { seen.old.log_id ≡ self.now }
@@ -89,7 +68,8 @@ impl<E> Log<E> {
         moves::show(pen, seen);
     }
 
-    /// Compares what two callers have seen: the entries of one of them begin those of the other. Changes nothing. Not in iceoryx2.
+    /// Proves that the entries seen by one of two callers are a prefix of the other's. Changes nothing. Not in
+    /// iceoryx2.
     pub fn compare(&self, one: &mut Seen<E>, other: &mut Seen<E>)
         requires one { one.old.log_id ≡ self.now }
         requires other { other.old.log_id ≡ self.now }

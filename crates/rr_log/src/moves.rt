@@ -1,4 +1,4 @@
-//! What changes the tokens of a log. None of it does anything when it runs, and each is proved by hand.
+//! Changes of the tokens of a log. None does anything when it runs, and each is proved by hand.
 ghost use Rattle.std.specs.Prelude.{◌≡◌, ◌≢◌, ◌⊎◌, [], ◌∷◌, ◌++◌};
 ghost use mathlib.Core.List.{IsPrefix};
 ghost use Rattle.rr_log.specs.Entries.{whole, beginning, Follows};
@@ -22,7 +22,7 @@ pub(crate) fn open<E>() -> (Name<E>, Pen<E>)
     )
 }
 
-/// Makes a caller, which has seen nothing.
+/// Makes a caller that has seen no entries.
 pub(crate) fn enter<E>(name: &Name<E>) -> Seen<E>
     ensures { (result.log_id ≡ name.now.log_id) × (result.entries ≡ []) }
 {
@@ -32,7 +32,7 @@ pub(crate) fn enter<E>(name: &Name<E>) -> Seen<E>
     }
 }
 
-/// Shows a caller all entries. Those that it had not seen are others'.
+/// Shows a caller all entries. The new ones are all from other callers.
 pub(crate) fn show<E>(pen: &mut Pen<E>, seen: &mut Seen<E>)
     requires log { seen.old.log_id ≡ pen.old.log_id }
     ensures pen { pen.new ≡ pen.old }
@@ -48,7 +48,7 @@ pub(crate) fn add<E>(pen: &mut Pen<E>, seen: &mut Seen<E>, entry: &E)
     ensures seen { seen.new ≡ beginning pen.old.log_id seen.old.caller pen.new.entries }
 {}
 
-/// Compares what two callers of one log have seen. Changes nothing.
+/// Proves that the entries seen by one of two callers of a log are a prefix of the other's. Changes nothing.
 pub(crate) fn compare<E>(one: &mut Seen<E>, other: &mut Seen<E>)
     requires log { one.old.log_id ≡ other.old.log_id }
     ensures same { (one.new ≡ one.old) × (other.new ≡ other.old) }

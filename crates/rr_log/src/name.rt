@@ -1,10 +1,10 @@
-//! Which log it is.
+//! The identity of a log.
 ghost use Rattle.std.specs.Prelude.{ℕ};
 ghost use base.Fml.{ftrue};
 
 use std::marker::{Model, PhantomData};
 
-/// Which log it is. It has no bytes and owns nothing, so it may be shared by all threads.
+/// The identity of a log. It has no bytes and owns nothing, so it may be shared by all threads.
 pub struct Name<E> {
     pub(crate) marker: PhantomData<E>,
     pub ghost log_id: { ℕ },

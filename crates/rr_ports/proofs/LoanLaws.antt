@@ -3,7 +3,7 @@ use Rattle.std.proofs.Common.{true, false, cond, ◌≡◌, ◌≢◌, ℕ, suc,
 use Rattle.std.specs.Prelude.{◌&&◌, ◌||◌, ◌==◌, IfErr, IfOk, option_and_then}
 use Rattle.std.specs.List.{list_any}
 use Rattle.std.proofs.lemmas.Bool.{eqb-true}
-use Rattle.rr_map_laws.proofs.ListFacts.{passes_found}
+use Rattle.rr_table.proofs.ListFacts.{passes_found}
 use Rattle.std.specs.FinMap as fin_map
 use Rattle.rr_protocol.specs.declared.kind.Kind.{Kind}
 use Rattle.rr_protocol.specs.declared.error.LoanError.{LoanError}

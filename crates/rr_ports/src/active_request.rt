@@ -57,7 +57,7 @@ impl<QB> Model for ActiveRequest<QB> {
     ghost view = { λ handle. handle.id };
 }
 
-/// Makes the handle of what was received.
+/// Makes the handle of a received message.
 #[inline(always)]
 pub(crate) fn received<QB>(
     id: Result<Option<HandleId>, ReceiveError>,
@@ -82,7 +82,8 @@ impl<QB: Body> ActiveRequest<QB> {
         hub: &Hub<QB, QH, PB, PH, K>,
     ) -> RequestHeader
         requires { Names hub.now self.now kind.ActiveRequest }
-        ensures { IsSomeAnd (option_and_then request_in (handle_at hub.now self.now)) (λ m. result ≡ request_header hub.now m) }
+        ensures { IsSomeAnd (option_and_then request_in (handle_at hub.now self.now))
+            (λ m. result ≡ request_header hub.now m) }
     {
         hub.core.request_header(&self.id)
     }
@@ -94,7 +95,8 @@ impl<QB: Body> ActiveRequest<QB> {
         hub: &'a Hub<QB, QH, PB, PH, K>,
     ) -> &'a QH
         requires { Names hub.now self.now kind.ActiveRequest }
-        ensures { IsSomeAnd (option_and_then request_in (handle_at hub.now self.now)) (λ m. result.now ≡ m.content.user_header) }
+        ensures { IsSomeAnd (option_and_then request_in (handle_at hub.now self.now))
+            (λ m. result.now ≡ m.content.user_header) }
     {
         hub.core.request_user_header(&self.id)
     }
@@ -111,7 +113,8 @@ impl<QB: Body> ActiveRequest<QB> {
         hub.core.request_origin(&self.id)
     }
 
-    /// Returns whether the pending response of the request lives. After iceoryx2's `ActiveRequest::is_connected`.
+    /// Returns whether the pending response of the request is still live. After iceoryx2's
+    /// `ActiveRequest::is_connected`.
     #[inline(always)]
     pub fn is_connected<QH: Default + Drop, PB: Body, PH: Default + Drop, K: BackpressureFn>(
         &self,
@@ -123,21 +126,22 @@ impl<QB: Body> ActiveRequest<QB> {
         hub.core.is_active_connected(&self.id)
     }
 
-    /// Returns whether the pending response of the request lives and wants no more responses. After iceoryx2's
-    /// `ActiveRequest::has_disconnect_hint`.
+    /// Returns whether the pending response of the request lives and has asked for no further responses. After
+    /// iceoryx2's `ActiveRequest::has_disconnect_hint`.
     #[inline(always)]
     pub fn has_disconnect_hint<QH: Default + Drop, PB: Body, PH: Default + Drop, K: BackpressureFn>(
         &self,
         hub: &Hub<QB, QH, PB, PH, K>,
     ) -> bool
         requires { Names hub.now self.now kind.ActiveRequest }
-        ensures { IsSomeAnd (active_at hub.now self.now) (λ active. result ≡ has_disconnect_hint hub.now active.message.number) }
+        ensures { IsSomeAnd (active_at hub.now self.now)
+            (λ active. result ≡ has_disconnect_hint hub.now active.message.number) }
     {
         hub.core.has_disconnect_hint(&self.id)
     }
 
-    /// Releases the active request. Its server will not answer it any more, but for responses that are on loan from it already.
-    /// Replaces the `Drop` of iceoryx2's `ActiveRequest`.
+    /// Releases the active request. Its server no longer answers the request, except with responses that it has on
+    /// loan already. Replaces the `Drop` of iceoryx2's `ActiveRequest`.
     #[inline(always)]
     pub fn release<QH: Default + Drop, PB: Body, PH: Default + Drop, K: BackpressureFn>(
         self,
@@ -147,10 +151,13 @@ impl<QB: Body> ActiveRequest<QB> {
         ensures released { hub.new ≡ after_release hub.old self }
         ensures keeps { Keeps (self ∷ []) hub.old hub.new }
         ensures numbers { numbers_left hub.new ≡ numbers_left hub.old }
-        ensures heard { (port request : ℕ) → Has hub.old self (Of port request) → Names hub.old port kind.Server → KeepsHeard (self ∷ []) hub.old hub.new }
-        ensures awaited { (port request : ℕ) → Has hub.old self (Of port request) → Names hub.old port kind.Server → KeepsAwaited (self ∷ []) hub.old hub.new }
+        ensures heard { (port request : ℕ) → Has hub.old self (Of port request) → Names hub.old port kind.Server
+            → KeepsHeard (self ∷ []) hub.old hub.new }
+        ensures awaited { (port request : ℕ) → Has hub.old self (Of port request) → Names hub.old port kind.Server
+            → KeepsAwaited (self ∷ []) hub.old hub.new }
         ensures owned { KeepsOwned [] hub.old hub.new }
-        ensures frees { (port request most : ℕ) → Has hub.old self (Of port request) → Owns hub.old port (suc most) → Owns hub.new port most }
+        ensures frees { (port request most : ℕ) → Has hub.old self (Of port request) → Owns hub.old port (suc most)
+            → Owns hub.new port most }
     {
         let ActiveRequest { id, of: _ } = self;
         hub.core.release_active(&id);

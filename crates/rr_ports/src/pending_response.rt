@@ -81,7 +81,8 @@ impl<QB: Body> PendingResponse<QB> {
         hub: &Hub<QB, QH, PB, PH, K>,
     ) -> RequestHeader
         requires { Names hub.now self.now kind.PendingResponse }
-        ensures { IsSomeAnd (option_and_then request_in (handle_at hub.now self.now)) (λ m. result ≡ request_header hub.now m) }
+        ensures { IsSomeAnd (option_and_then request_in (handle_at hub.now self.now))
+            (λ m. result ≡ request_header hub.now m) }
     {
         hub.core.request_header(&self.id)
     }
@@ -93,13 +94,14 @@ impl<QB: Body> PendingResponse<QB> {
         hub: &'a Hub<QB, QH, PB, PH, K>,
     ) -> &'a QH
         requires { Names hub.now self.now kind.PendingResponse }
-        ensures { IsSomeAnd (option_and_then request_in (handle_at hub.now self.now)) (λ m. result.now ≡ m.content.user_header) }
+        ensures { IsSomeAnd (option_and_then request_in (handle_at hub.now self.now))
+            (λ m. result.now ≡ m.content.user_header) }
     {
         hub.core.request_user_header(&self.id)
     }
 
-    /// Tells the servers that the client wants no more responses to this request: `has_disconnect_hint` returns `true` for its
-    /// active requests from then on. After iceoryx2's `PendingResponse::set_disconnect_hint`.
+    /// Asks the servers for no further responses to this request: `has_disconnect_hint` returns `true` for its active
+    /// requests from then on. After iceoryx2's `PendingResponse::set_disconnect_hint`.
     #[inline(always)]
     pub fn set_disconnect_hint<QH: Default + Drop, PB: Body, PH: Default + Drop, K: BackpressureFn>(
         &self,
@@ -116,7 +118,8 @@ impl<QB: Body> PendingResponse<QB> {
         hub.core.set_disconnect_hint(&self.id);
     }
 
-    /// Returns whether a connected server may still answer the request. After iceoryx2's `PendingResponse::is_connected`.
+    /// Returns whether a connected server may still answer the request. After iceoryx2's
+    /// `PendingResponse::is_connected`.
     #[inline(always)]
     pub fn is_connected<QH: Default + Drop, PB: Body, PH: Default + Drop, K: BackpressureFn>(
         &self,
@@ -128,7 +131,7 @@ impl<QB: Body> PendingResponse<QB> {
         hub.core.is_pending_connected(&self.id)
     }
 
-    /// Returns how many queues of servers took the request as it was sent. After iceoryx2's
+    /// Returns how many servers' queues took the request when it was sent. After iceoryx2's
     /// `PendingResponse::number_of_server_connections`.
     #[inline(always)]
     pub fn number_of_server_connections<
@@ -155,14 +158,14 @@ impl<QB: Body> PendingResponse<QB> {
         hub.core.has_response(&self.id)
     }
 
-    /// Receives the oldest response that some server's queue to this request has. Receives go round: the server after the one that
-    /// was heard last comes first. Returns `None` if no response is queued. Takes no memory. After iceoryx2's
+    /// Receives the oldest response in a server's queue for this request. Receives are round robin: the server after
+    /// the one served last comes first. Returns `None` if no response is queued. Takes no memory. After iceoryx2's
     /// `PendingResponse::receive`.
     ///
     /// # Errors
     ///
-    /// - `ExceedsMaxBorrows` if every queue that has a response is at its borrow limit. The hub stays as it was. Not if fewer other
-    ///   handles of the client live (`few_borrows`).
+    /// - `ExceedsMaxBorrows` if every queue that has a response is at its borrow limit. The hub stays as it was.
+    ///   Never if fewer other handles of the client live (`few_borrows`).
     #[inline(always)]
     pub fn receive<QH: Default + Drop, PB: Body, PH: Default + Drop, K: BackpressureFn>(
         &self,
@@ -174,26 +177,38 @@ impl<QB: Body> PendingResponse<QB> {
         ensures kind { IfOk result (λ received. IfSome received (λ response. Names hub.new response kind.Response)) }
         ensures keeps { Keeps [] hub.old hub.new }
         ensures numbers { numbers_left hub.new ≡ numbers_left hub.old }
-        ensures answers { (server : ℕ) (xs : List PB.Item) (later : List (List PB.Item)) → Awaits hub.old self.now server (xs ∷ later) → IfOk result (λ received. IfSome received (λ response. Has hub.new response (Answers xs))) }
-        ensures missed { (server : ℕ) (xs : List PB.Item) (later : List (List PB.Item)) → Awaits hub.old self.now server (xs ∷ later) → result ≢ Ok None }
-        ensures later { (server : ℕ) (xs : List PB.Item) (later : List (List PB.Item)) → Awaits hub.old self.now server (xs ∷ later) → IfOk result (λ received. Awaits hub.new self.now server later) }
-        ensures done { (server : ℕ) (xs : List PB.Item) → Awaits hub.old self.now server (xs ∷ []) → IfOk result (λ received. AwaitsNothing hub.new self.now) }
-        ensures of { (port request : ℕ) → Has hub.old self.now (Of port request) → IfOk result (λ received. IfSome received (λ response. Has hub.new response (Of port request))) }
+        ensures answers { (server : ℕ) (xs : List PB.Item) (later : List (List PB.Item))
+            → Awaits hub.old self.now server (xs ∷ later)
+            → IfOk result (λ received. IfSome received (λ response. Has hub.new response (Answers xs))) }
+        ensures missed { (server : ℕ) (xs : List PB.Item) (later : List (List PB.Item))
+            → Awaits hub.old self.now server (xs ∷ later) → result ≢ Ok None }
+        ensures later { (server : ℕ) (xs : List PB.Item) (later : List (List PB.Item))
+            → Awaits hub.old self.now server (xs ∷ later)
+            → IfOk result (λ received. Awaits hub.new self.now server later) }
+        ensures done { (server : ℕ) (xs : List PB.Item) → Awaits hub.old self.now server (xs ∷ [])
+            → IfOk result (λ received. AwaitsNothing hub.new self.now) }
+        ensures of { (port request : ℕ) → Has hub.old self.now (Of port request)
+            → IfOk result (λ received. IfSome received (λ response. Has hub.new response (Of port request))) }
         ensures heard { KeepsHeard [] hub.old hub.new }
         ensures awaited { KeepsAwaited (self.now ∷ []) hub.old hub.new }
-        ensures owned { (port request : ℕ) → Has hub.old self.now (Of port request) → KeepsOwned (port ∷ []) hub.old hub.new }
-        ensures owns { (port request most : ℕ) → Has hub.old self.now (Of port request) → Owns hub.old port most → IfOk result (λ received. IfSome received (λ response. Owns hub.new port (suc most))) }
+        ensures owned { (port request : ℕ) → Has hub.old self.now (Of port request)
+            → KeepsOwned (port ∷ []) hub.old hub.new }
+        ensures owns { (port request most : ℕ) → Has hub.old self.now (Of port request) → Owns hub.old port most
+            → IfOk result (λ received. IfSome received (λ response. Owns hub.new port (suc most))) }
         ensures owns_none { result ≡ Ok None → KeepsOwned [] hub.old hub.new }
         ensures owns_err { IfErr result (λ error. KeepsOwned [] hub.old hub.new) }
-        ensures few_borrows { (port request most : ℕ) → Has hub.old self.now (Of port request) → Owns hub.old port (suc most) → IsBelow most hub.old.limits.max_borrowed_responses_per_pending_response → result ≢ Err ReceiveError.ExceedsMaxBorrows }
-        ensures sure { (port request : ℕ) → Has hub.old self.now (Of port request) → Owns hub.old port 1 → (error : _) → result ≢ Err error }
+        ensures few_borrows { (port request most : ℕ) → Has hub.old self.now (Of port request)
+            → Owns hub.old port (suc most) → IsBelow most hub.old.limits.max_borrowed_responses_per_pending_response
+            → result ≢ Err ReceiveError.ExceedsMaxBorrows }
+        ensures sure { (port request : ℕ) → Has hub.old self.now (Of port request) → Owns hub.old port 1 → (error : _)
+            → result ≢ Err error }
     {
         hub.core.reached();
         response::received(hub.core.receive_response(&self.id))
     }
 
-    /// Releases the pending response. Responses that were not received go, and nobody waits for the request any more. Replaces the
-    /// `Drop` of iceoryx2's `PendingResponse`.
+    /// Releases the pending response. Its queued responses are dropped, and servers see that nobody waits for an
+    /// answer. Replaces the `Drop` of iceoryx2's `PendingResponse`.
     #[inline(always)]
     pub fn release<QH: Default + Drop, PB: Body, PH: Default + Drop, K: BackpressureFn>(
         self,
@@ -203,10 +218,13 @@ impl<QB: Body> PendingResponse<QB> {
         ensures released { hub.new ≡ after_release hub.old self }
         ensures keeps { Keeps (self ∷ []) hub.old hub.new }
         ensures numbers { numbers_left hub.new ≡ numbers_left hub.old }
-        ensures heard { (port request : ℕ) → Has hub.old self (Of port request) → Names hub.old port kind.Client → KeepsHeard (self ∷ []) hub.old hub.new }
-        ensures awaited { (port request : ℕ) → Has hub.old self (Of port request) → Names hub.old port kind.Client → KeepsAwaited (self ∷ []) hub.old hub.new }
+        ensures heard { (port request : ℕ) → Has hub.old self (Of port request) → Names hub.old port kind.Client
+            → KeepsHeard (self ∷ []) hub.old hub.new }
+        ensures awaited { (port request : ℕ) → Has hub.old self (Of port request) → Names hub.old port kind.Client
+            → KeepsAwaited (self ∷ []) hub.old hub.new }
         ensures owned { KeepsOwned [] hub.old hub.new }
-        ensures frees { (port request most : ℕ) → Has hub.old self (Of port request) → Owns hub.old port (suc most) → Owns hub.new port most }
+        ensures frees { (port request most : ℕ) → Has hub.old self (Of port request) → Owns hub.old port (suc most)
+            → Owns hub.new port most }
     {
         let PendingResponse { id, of: _ } = self;
         hub.core.reached();

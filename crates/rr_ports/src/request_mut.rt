@@ -69,7 +69,8 @@ impl<QB: Body> RequestMut<QB> {
         hub: &Hub<QB, QH, PB, PH, K>,
     ) -> RequestHeader
         requires { Names hub.now self.now kind.RequestMut }
-        ensures { IsSomeAnd (option_and_then request_in (handle_at hub.now self.now)) (λ m. result ≡ request_header hub.now m) }
+        ensures { IsSomeAnd (option_and_then request_in (handle_at hub.now self.now))
+            (λ m. result ≡ request_header hub.now m) }
     {
         hub.core.request_header(&self.id)
     }
@@ -81,13 +82,14 @@ impl<QB: Body> RequestMut<QB> {
         hub: &'a Hub<QB, QH, PB, PH, K>,
     ) -> &'a QH
         requires { Names hub.now self.now kind.RequestMut }
-        ensures { IsSomeAnd (option_and_then request_in (handle_at hub.now self.now)) (λ m. result.now ≡ m.content.user_header) }
+        ensures { IsSomeAnd (option_and_then request_in (handle_at hub.now self.now))
+            (λ m. result.now ≡ m.content.user_header) }
     {
         hub.core.request_user_header(&self.id)
     }
 
-    /// Returns whether a send would be taken by each queue that it reaches: no queue of a connected server that a send would reach
-    /// is full, or full ones may overflow. Not in iceoryx2.
+    /// Returns whether every queue that a send would reach takes the request: none of them is full, or full ones may
+    /// overflow. Not in iceoryx2.
     #[inline(always)]
     pub fn is_deliverable<QH: Default + Drop, PB: Body, PH: Default + Drop, K: BackpressureFn>(
         &self,
@@ -103,11 +105,11 @@ impl<QB: Body> RequestMut<QB> {
     ///
     /// # Errors
     ///
-    /// An error releases the request, and no queue has it.
-    /// - `ExceedsMaxActiveRequests` if the client has as many pending responses as it may. Not if fewer of its other handles live
-    ///   (`few_active`).
-    /// - `SendError(UnableToDeliver)` if the queue to some server is full, may not overflow, and is not passed over. Not if the client
-    ///   discards at full queues (`discards`).
+    /// On an error the request is released and is in no queue.
+    /// - `ExceedsMaxActiveRequests` if the client has its maximum of pending responses. Never if fewer of its other
+    ///   handles live (`few_active`).
+    /// - `SendError(UnableToDeliver)` if the queue to some server is full, may not overflow, and is not skipped.
+    ///   Never if the client discards at full queues (`discards`).
     #[inline(always)]
     pub fn send<QH: Default + Drop, PB: Body, PH: Default + Drop, K: BackpressureFn>(
         self,
@@ -116,20 +118,31 @@ impl<QB: Body> RequestMut<QB> {
         requires { Names hub.old self kind.RequestMut }
         ensures sends { SendsPending K.action hub.old self result hub.new }
         ensures kind { IfOk result (λ pending. Names hub.new pending kind.PendingResponse) }
-        ensures says { IfOk result (λ pending. (xs : List QB.Item) → Has hub.old self (Asks xs) → Has hub.new pending (Asks xs)) }
+        ensures says { IfOk result (λ pending. (xs : List QB.Item) → Has hub.old self (Asks xs)
+            → Has hub.new pending (Asks xs)) }
         ensures keeps { Keeps (self ∷ []) hub.old hub.new }
         ensures numbers { numbers_left hub.new ≡ numbers_left hub.old }
-        ensures of { (port request : ℕ) → Has hub.old self (Of port request) → IfOk result (λ pending. Has hub.new pending (Of port pending)) }
-        ensures hears { (server : ℕ) → Names hub.old server kind.Server → HearsNothing hub.old server → IfOk result (λ pending. Hears hub.new server pending) }
+        ensures of { (port request : ℕ) → Has hub.old self (Of port request)
+            → IfOk result (λ pending. Has hub.new pending (Of port pending)) }
+        ensures hears { (server : ℕ) → Names hub.old server kind.Server → HearsNothing hub.old server
+            → IfOk result (λ pending. Hears hub.new server pending) }
         ensures awaits { IfOk result (λ pending. AwaitsNothing hub.new pending) }
-        ensures awaited { (port request : ℕ) → Has hub.old self (Of port request) → Names hub.old port kind.Client → KeepsAwaited (self ∷ []) hub.old hub.new }
-        ensures refused { (port request : ℕ) → Has hub.old self (Of port request) → Names hub.old port kind.Client → IfErr result (λ error. KeepsHeard (self ∷ []) hub.old hub.new) }
-        ensures buffers { (port room : ℕ) → Has hub.old port (Buffers room) → IfOk result (λ pending. Has hub.new pending (Buffers room)) }
-        ensures discards { (port request : ℕ) → Has hub.old self (Of port request) → Has hub.old port Discards → result ≢ Err (RequestSendError.SendError send.UnableToDeliver) }
+        ensures awaited { (port request : ℕ) → Has hub.old self (Of port request) → Names hub.old port kind.Client
+            → KeepsAwaited (self ∷ []) hub.old hub.new }
+        ensures refused { (port request : ℕ) → Has hub.old self (Of port request) → Names hub.old port kind.Client
+            → IfErr result (λ error. KeepsHeard (self ∷ []) hub.old hub.new) }
+        ensures buffers { (port room : ℕ) → Has hub.old port (Buffers room)
+            → IfOk result (λ pending. Has hub.new pending (Buffers room)) }
+        ensures discards { (port request : ℕ) → Has hub.old self (Of port request) → Has hub.old port Discards
+            → result ≢ Err (RequestSendError.SendError send.UnableToDeliver) }
         ensures owned { KeepsOwned [] hub.old hub.new }
-        ensures frees { (port request most : ℕ) → Has hub.old self (Of port request) → Owns hub.old port (suc most) → IfErr result (λ error. Owns hub.new port most) }
-        ensures few_active { (port request most : ℕ) → Has hub.old self (Of port request) → Owns hub.old port (suc most) → IsBelow most hub.old.limits.max_active_requests_per_client → result ≢ Err RequestSendError.ExceedsMaxActiveRequests }
-        ensures sure { (port request : ℕ) → Has hub.old self (Of port request) → Has hub.old port Discards → Owns hub.old port 1 → (error : _) → result ≢ Err error }
+        ensures frees { (port request most : ℕ) → Has hub.old self (Of port request) → Owns hub.old port (suc most)
+            → IfErr result (λ error. Owns hub.new port most) }
+        ensures few_active { (port request most : ℕ) → Has hub.old self (Of port request)
+            → Owns hub.old port (suc most) → IsBelow most hub.old.limits.max_active_requests_per_client
+            → result ≢ Err RequestSendError.ExceedsMaxActiveRequests }
+        ensures sure { (port request : ℕ) → Has hub.old self (Of port request) → Has hub.old port Discards
+            → Owns hub.old port 1 → (error : _) → result ≢ Err error }
     {
         let RequestMut { id, of: _ } = self;
         hub.core.reached();
@@ -140,7 +153,7 @@ impl<QB: Body> RequestMut<QB> {
         })
     }
 
-    /// Releases the request, which is never sent. Replaces the `Drop` of iceoryx2's `RequestMut`.
+    /// Releases the request without sending it. Replaces the `Drop` of iceoryx2's `RequestMut`.
     #[inline(always)]
     pub fn release<QH: Default + Drop, PB: Body, PH: Default + Drop, K: BackpressureFn>(
         self,
@@ -150,10 +163,13 @@ impl<QB: Body> RequestMut<QB> {
         ensures released { hub.new ≡ after_release hub.old self }
         ensures keeps { Keeps (self ∷ []) hub.old hub.new }
         ensures numbers { numbers_left hub.new ≡ numbers_left hub.old }
-        ensures heard { (port request : ℕ) → Has hub.old self (Of port request) → Names hub.old port kind.Client → KeepsHeard (self ∷ []) hub.old hub.new }
-        ensures awaited { (port request : ℕ) → Has hub.old self (Of port request) → Names hub.old port kind.Client → KeepsAwaited (self ∷ []) hub.old hub.new }
+        ensures heard { (port request : ℕ) → Has hub.old self (Of port request) → Names hub.old port kind.Client
+            → KeepsHeard (self ∷ []) hub.old hub.new }
+        ensures awaited { (port request : ℕ) → Has hub.old self (Of port request) → Names hub.old port kind.Client
+            → KeepsAwaited (self ∷ []) hub.old hub.new }
         ensures owned { KeepsOwned [] hub.old hub.new }
-        ensures frees { (port request most : ℕ) → Has hub.old self (Of port request) → Owns hub.old port (suc most) → Owns hub.new port most }
+        ensures frees { (port request most : ℕ) → Has hub.old self (Of port request) → Owns hub.old port (suc most)
+            → Owns hub.new port most }
     {
         let RequestMut { id, of: _ } = self;
         hub.core.release_request(&id);

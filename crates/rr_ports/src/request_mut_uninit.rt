@@ -19,7 +19,8 @@ use rr_hub::{BackpressureFn, HandleId, Kind, LoanError, RequestHeader};
 use rr_slots::{Body, WriteBody};
 use std::marker::{Model, PhantomData};
 
-/// A loaned request whose payload is being written. It is not dropped: `assume_init`, a write of the whole payload or `release` ends it.
+/// A loaned request whose payload is being written. It is not dropped: `assume_init`, a write of the whole payload or
+/// `release` ends it.
 ///
 /// # Examples
 ///
@@ -84,7 +85,8 @@ impl<QB: Body> RequestMutUninit<QB> {
         hub: &Hub<QB, QH, PB, PH, K>,
     ) -> RequestHeader
         requires { Names hub.now self.now kind.RequestMutUninit }
-        ensures { IsSomeAnd (option_and_then request_in (handle_at hub.now self.now)) (λ m. result ≡ request_header hub.now m) }
+        ensures { IsSomeAnd (option_and_then request_in (handle_at hub.now self.now))
+            (λ m. result ≡ request_header hub.now m) }
     {
         hub.core.request_header(&self.id)
     }
@@ -96,20 +98,22 @@ impl<QB: Body> RequestMutUninit<QB> {
         hub: &'a Hub<QB, QH, PB, PH, K>,
     ) -> &'a QH
         requires { Names hub.now self.now kind.RequestMutUninit }
-        ensures { IsSomeAnd (option_and_then request_in (handle_at hub.now self.now)) (λ m. result.now ≡ m.content.user_header) }
+        ensures { IsSomeAnd (option_and_then request_in (handle_at hub.now self.now))
+            (λ m. result.now ≡ m.content.user_header) }
     {
         hub.core.request_user_header(&self.id)
     }
 
-    /// Makes a request whose payload is complete one that can be sent. After iceoryx2's unsafe `RequestMutUninit::assume_init`, whose
-    /// condition is the caller's here: `is_complete` tests it.
+    /// Makes a request with a complete payload ready to send. After iceoryx2's unsafe
+    /// `RequestMutUninit::assume_init`, whose condition is the caller's here: `is_complete` tests it.
     #[inline(always)]
     pub fn assume_init<QH: Default + Drop, PB: Body, PH: Default + Drop, K: BackpressureFn>(
         self,
         hub: &mut Hub<QB, QH, PB, PH, K>,
     ) -> RequestMut<QB>
         requires kind { Names hub.old self kind.RequestMutUninit }
-        requires complete { IsSomeAnd (option_and_then request_in (handle_at hub.old self)) (λ m. is_complete m.content ≡ true) }
+        requires complete { IsSomeAnd (option_and_then request_in (handle_at hub.old self))
+            (λ m. is_complete m.content ≡ true) }
         ensures same { result ≡ self }
         ensures initialised { hub.new ≡ with_changed hub.old self after_init }
         ensures kind { Names hub.new result kind.RequestMut }
@@ -129,7 +133,7 @@ impl<QB: Body> RequestMutUninit<QB> {
         }
     }
 
-    /// Releases the request, which is never sent. Replaces the `Drop` of iceoryx2's `RequestMutUninit`.
+    /// Releases the request without sending it. Replaces the `Drop` of iceoryx2's `RequestMutUninit`.
     #[inline(always)]
     pub fn release<QH: Default + Drop, PB: Body, PH: Default + Drop, K: BackpressureFn>(
         self,
@@ -139,10 +143,13 @@ impl<QB: Body> RequestMutUninit<QB> {
         ensures released { hub.new ≡ after_release hub.old self }
         ensures keeps { Keeps (self ∷ []) hub.old hub.new }
         ensures numbers { numbers_left hub.new ≡ numbers_left hub.old }
-        ensures heard { (port request : ℕ) → Has hub.old self (Of port request) → Names hub.old port kind.Client → KeepsHeard (self ∷ []) hub.old hub.new }
-        ensures awaited { (port request : ℕ) → Has hub.old self (Of port request) → Names hub.old port kind.Client → KeepsAwaited (self ∷ []) hub.old hub.new }
+        ensures heard { (port request : ℕ) → Has hub.old self (Of port request) → Names hub.old port kind.Client
+            → KeepsHeard (self ∷ []) hub.old hub.new }
+        ensures awaited { (port request : ℕ) → Has hub.old self (Of port request) → Names hub.old port kind.Client
+            → KeepsAwaited (self ∷ []) hub.old hub.new }
         ensures owned { KeepsOwned [] hub.old hub.new }
-        ensures frees { (port request most : ℕ) → Has hub.old self (Of port request) → Owns hub.old port (suc most) → Owns hub.new port most }
+        ensures frees { (port request most : ℕ) → Has hub.old self (Of port request) → Owns hub.old port (suc most)
+            → Owns hub.new port most }
     {
         let RequestMutUninit { id, of: _ } = self;
         hub.core.release_request(&id);
@@ -150,14 +157,15 @@ impl<QB: Body> RequestMutUninit<QB> {
 }
 
 impl<QB: WriteBody> RequestMutUninit<QB> {
-    /// Returns whether as many elements were written as were asked for. Not in iceoryx2.
+    /// Returns whether all elements of the loan were written. Not in iceoryx2.
     #[inline(always)]
     pub fn is_complete<QH: Default + Drop, PB: Body, PH: Default + Drop, K: BackpressureFn>(
         &self,
         hub: &Hub<QB, QH, PB, PH, K>,
     ) -> bool
         requires { Names hub.now self.now kind.RequestMutUninit }
-        ensures { IsSomeAnd (option_and_then request_in (handle_at hub.now self.now)) (λ m. result ≡ is_complete m.content) }
+        ensures { IsSomeAnd (option_and_then request_in (handle_at hub.now self.now))
+            (λ m. result ≡ is_complete m.content) }
     {
         hub.core.request_body(&self.id).is_complete()
     }

@@ -60,7 +60,7 @@ impl<PB> Model for Response<PB> {
     ghost view = { λ handle. handle.id };
 }
 
-/// Makes the handle of what was received.
+/// Makes the handle of a received message.
 #[inline(always)]
 pub(crate) fn received<PB>(
     id: Result<Option<HandleId>, ReceiveError>,
@@ -85,7 +85,8 @@ impl<PB: Body> Response<PB> {
         hub: &Hub<QB, QH, PB, PH, K>,
     ) -> ResponseHeader
         requires { Names hub.now self.now kind.Response }
-        ensures { IsSomeAnd (option_and_then response_in (handle_at hub.now self.now)) (λ m. result ≡ response_header hub.now m) }
+        ensures { IsSomeAnd (option_and_then response_in (handle_at hub.now self.now))
+            (λ m. result ≡ response_header hub.now m) }
     {
         hub.core.response_header(&self.id)
     }
@@ -97,7 +98,8 @@ impl<PB: Body> Response<PB> {
         hub: &'a Hub<QB, QH, PB, PH, K>,
     ) -> &'a PH
         requires { Names hub.now self.now kind.Response }
-        ensures { IsSomeAnd (option_and_then response_in (handle_at hub.now self.now)) (λ m. result.now ≡ m.content.user_header) }
+        ensures { IsSomeAnd (option_and_then response_in (handle_at hub.now self.now))
+            (λ m. result.now ≡ m.content.user_header) }
     {
         hub.core.response_user_header(&self.id)
     }
@@ -124,10 +126,13 @@ impl<PB: Body> Response<PB> {
         ensures released { hub.new ≡ after_release hub.old self }
         ensures keeps { Keeps (self ∷ []) hub.old hub.new }
         ensures numbers { numbers_left hub.new ≡ numbers_left hub.old }
-        ensures heard { (port request : ℕ) → Has hub.old self (Of port request) → Names hub.old port kind.Client → KeepsHeard (self ∷ []) hub.old hub.new }
-        ensures awaited { (port request : ℕ) → Has hub.old self (Of port request) → Names hub.old port kind.Client → KeepsAwaited (self ∷ []) hub.old hub.new }
+        ensures heard { (port request : ℕ) → Has hub.old self (Of port request) → Names hub.old port kind.Client
+            → KeepsHeard (self ∷ []) hub.old hub.new }
+        ensures awaited { (port request : ℕ) → Has hub.old self (Of port request) → Names hub.old port kind.Client
+            → KeepsAwaited (self ∷ []) hub.old hub.new }
         ensures owned { KeepsOwned [] hub.old hub.new }
-        ensures frees { (port request most : ℕ) → Has hub.old self (Of port request) → Owns hub.old port (suc most) → Owns hub.new port most }
+        ensures frees { (port request most : ℕ) → Has hub.old self (Of port request) → Owns hub.old port (suc most)
+            → Owns hub.new port most }
     {
         let Response { id, of: _ } = self;
         hub.core.release_response(&id);

@@ -72,7 +72,8 @@ impl<PB: Body> ResponseMut<PB> {
         hub: &Hub<QB, QH, PB, PH, K>,
     ) -> ResponseHeader
         requires { Names hub.now self.now kind.ResponseMut }
-        ensures { IsSomeAnd (option_and_then response_in (handle_at hub.now self.now)) (λ m. result ≡ response_header hub.now m) }
+        ensures { IsSomeAnd (option_and_then response_in (handle_at hub.now self.now))
+            (λ m. result ≡ response_header hub.now m) }
     {
         hub.core.response_header(&self.id)
     }
@@ -84,13 +85,14 @@ impl<PB: Body> ResponseMut<PB> {
         hub: &'a Hub<QB, QH, PB, PH, K>,
     ) -> &'a PH
         requires { Names hub.now self.now kind.ResponseMut }
-        ensures { IsSomeAnd (option_and_then response_in (handle_at hub.now self.now)) (λ m. result.now ≡ m.content.user_header) }
+        ensures { IsSomeAnd (option_and_then response_in (handle_at hub.now self.now))
+            (λ m. result.now ≡ m.content.user_header) }
     {
         hub.core.response_user_header(&self.id)
     }
 
-    /// Returns whether a send would be taken by each queue that it reaches: the queue that a send would reach, if there is one, is
-    /// not full, or may overflow. Not in iceoryx2.
+    /// Returns whether the queue that a send would reach, if any, takes the response: it is not full, or may
+    /// overflow. Not in iceoryx2.
     #[inline(always)]
     pub fn is_deliverable<QB: Body, QH: Default + Drop, PH: Default + Drop, K: BackpressureFn>(
         &self,
@@ -102,15 +104,15 @@ impl<PB: Body> ResponseMut<PB> {
         hub.core.is_response_deliverable(&self.id)
     }
 
-    /// Sends the response to its request, if that is still a pending response of a connected client, and else releases it. A full
-    /// queue is passed over with `DiscardData`: a stream in which nothing may be missed wants `RetryUntilDelivered`. Takes no memory.
-    /// After iceoryx2's `ResponseMut::send`.
+    /// Sends the response to its request, if it is still pending at a connected client, and otherwise releases the
+    /// response. With `DiscardData` a full queue is skipped; a stream that must not have gaps needs
+    /// `RetryUntilDelivered`. Takes no memory. After iceoryx2's `ResponseMut::send`.
     ///
     /// # Errors
     ///
-    /// - `UnableToDeliver` if the queue to the request is full, may not overflow, and is not passed over. The response is released,
-    ///   and the queue stays. Not if the server discards at full queues (`discards`), or the request awaits nothing (`delivered`) or
-    ///   less than its buffer takes (`room`).
+    /// - `UnableToDeliver` if the queue to the request is full, may not overflow, and is not skipped. The response is
+    ///   released, and the queue is unchanged. Never if the server discards at full queues (`discards`), or no
+    ///   response is queued for the request (`delivered`), or fewer than its buffer takes (`room`).
     #[inline(always)]
     pub fn send<QB: Body, QH: Default + Drop, PH: Default + Drop, K: BackpressureFn>(
         self,
@@ -120,23 +122,36 @@ impl<PB: Body> ResponseMut<PB> {
         ensures sends { SendsResponse K.action hub.old self result hub.new }
         ensures keeps { Keeps (self ∷ []) hub.old hub.new }
         ensures numbers { numbers_left hub.new ≡ numbers_left hub.old }
-        ensures first { (server pending : ℕ) (xs : List PB.Item) → Has hub.old self (Of server pending) → Names hub.old server kind.Server → Has hub.old self (Answers xs) → AwaitsNothing hub.old pending → OnOk result (Awaits hub.new pending server (xs ∷ [])) }
-        ensures next { (server pending : ℕ) (answers : List (List PB.Item)) (xs : List PB.Item) → Has hub.old self (Of server pending) → Names hub.old server kind.Server → Has hub.old self (Answers xs) → Awaits hub.old pending server answers → length answers < hub.old.limits.max_response_buffer_size → OnOk result (Awaits hub.new pending server (answers ++ xs ∷ [])) }
-        ensures heard { (port request : ℕ) → Has hub.old self (Of port request) → Names hub.old port kind.Server → KeepsHeard (self ∷ []) hub.old hub.new }
-        ensures awaited { (server pending : ℕ) → Has hub.old self (Of server pending) → Names hub.old server kind.Server → KeepsAwaited (self ∷ pending ∷ []) hub.old hub.new }
-        ensures refused { (server pending : ℕ) → Has hub.old self (Of server pending) → Names hub.old server kind.Server → IfErr result (λ error. KeepsAwaited (self ∷ []) hub.old hub.new) }
-        ensures delivered { (server pending : ℕ) → Has hub.old self (Of server pending) → AwaitsNothing hub.old pending → IsOk result }
-        ensures room { (server pending : ℕ) (answers : List (List PB.Item)) → Has hub.old self (Of server pending) → Awaits hub.old pending server answers → length answers < hub.old.limits.max_response_buffer_size → IsOk result }
-        ensures discards { (port request : ℕ) → Has hub.old self (Of port request) → Has hub.old port Discards → IsOk result }
+        ensures first { (server pending : ℕ) (xs : List PB.Item) → Has hub.old self (Of server pending)
+            → Names hub.old server kind.Server → Has hub.old self (Answers xs) → AwaitsNothing hub.old pending
+            → OnOk result (Awaits hub.new pending server (xs ∷ [])) }
+        ensures next { (server pending : ℕ) (answers : List (List PB.Item)) (xs : List PB.Item)
+            → Has hub.old self (Of server pending) → Names hub.old server kind.Server → Has hub.old self (Answers xs)
+            → Awaits hub.old pending server answers → length answers < hub.old.limits.max_response_buffer_size
+            → OnOk result (Awaits hub.new pending server (answers ++ xs ∷ [])) }
+        ensures heard { (port request : ℕ) → Has hub.old self (Of port request) → Names hub.old port kind.Server
+            → KeepsHeard (self ∷ []) hub.old hub.new }
+        ensures awaited { (server pending : ℕ) → Has hub.old self (Of server pending)
+            → Names hub.old server kind.Server → KeepsAwaited (self ∷ pending ∷ []) hub.old hub.new }
+        ensures refused { (server pending : ℕ) → Has hub.old self (Of server pending)
+            → Names hub.old server kind.Server → IfErr result (λ error. KeepsAwaited (self ∷ []) hub.old hub.new) }
+        ensures delivered { (server pending : ℕ) → Has hub.old self (Of server pending)
+            → AwaitsNothing hub.old pending → IsOk result }
+        ensures room { (server pending : ℕ) (answers : List (List PB.Item)) → Has hub.old self (Of server pending)
+            → Awaits hub.old pending server answers → length answers < hub.old.limits.max_response_buffer_size
+            → IsOk result }
+        ensures discards { (port request : ℕ) → Has hub.old self (Of port request) → Has hub.old port Discards
+            → IsOk result }
         ensures owned { KeepsOwned [] hub.old hub.new }
-        ensures frees { (port request most : ℕ) → Has hub.old self (Of port request) → Owns hub.old port (suc most) → Owns hub.new port most }
+        ensures frees { (port request most : ℕ) → Has hub.old self (Of port request) → Owns hub.old port (suc most)
+            → Owns hub.new port most }
     {
         let ResponseMut { id, of: _ } = self;
         hub.core.reached();
         hub.core.send_response(&id)
     }
 
-    /// Releases the response, which is never sent. Replaces the `Drop` of iceoryx2's `ResponseMut`.
+    /// Releases the response without sending it. Replaces the `Drop` of iceoryx2's `ResponseMut`.
     #[inline(always)]
     pub fn release<QB: Body, QH: Default + Drop, PH: Default + Drop, K: BackpressureFn>(
         self,
@@ -146,10 +161,13 @@ impl<PB: Body> ResponseMut<PB> {
         ensures released { hub.new ≡ after_release hub.old self }
         ensures keeps { Keeps (self ∷ []) hub.old hub.new }
         ensures numbers { numbers_left hub.new ≡ numbers_left hub.old }
-        ensures heard { (port request : ℕ) → Has hub.old self (Of port request) → Names hub.old port kind.Server → KeepsHeard (self ∷ []) hub.old hub.new }
-        ensures awaited { (port request : ℕ) → Has hub.old self (Of port request) → Names hub.old port kind.Server → KeepsAwaited (self ∷ []) hub.old hub.new }
+        ensures heard { (port request : ℕ) → Has hub.old self (Of port request) → Names hub.old port kind.Server
+            → KeepsHeard (self ∷ []) hub.old hub.new }
+        ensures awaited { (port request : ℕ) → Has hub.old self (Of port request) → Names hub.old port kind.Server
+            → KeepsAwaited (self ∷ []) hub.old hub.new }
         ensures owned { KeepsOwned [] hub.old hub.new }
-        ensures frees { (port request most : ℕ) → Has hub.old self (Of port request) → Owns hub.old port (suc most) → Owns hub.new port most }
+        ensures frees { (port request most : ℕ) → Has hub.old self (Of port request) → Owns hub.old port (suc most)
+            → Owns hub.new port most }
     {
         let ResponseMut { id, of: _ } = self;
         hub.core.release_response_loan(&id);

@@ -19,7 +19,8 @@ use rr_hub::{BackpressureFn, HandleId, Kind, LoanError, ResponseHeader};
 use rr_slots::{Body, WriteBody};
 use std::marker::{Model, PhantomData};
 
-/// A loaned response whose payload is being written. It is not dropped: `assume_init`, a write of the whole payload or `release` ends it.
+/// A loaned response whose payload is being written. It is not dropped: `assume_init`, a write of the whole payload
+/// or `release` ends it.
 ///
 /// # Examples
 ///
@@ -83,7 +84,8 @@ impl<PB: Body> ResponseMutUninit<PB> {
         hub: &Hub<QB, QH, PB, PH, K>,
     ) -> ResponseHeader
         requires { Names hub.now self.now kind.ResponseMutUninit }
-        ensures { IsSomeAnd (option_and_then response_in (handle_at hub.now self.now)) (λ m. result ≡ response_header hub.now m) }
+        ensures { IsSomeAnd (option_and_then response_in (handle_at hub.now self.now))
+            (λ m. result ≡ response_header hub.now m) }
     {
         hub.core.response_header(&self.id)
     }
@@ -95,20 +97,22 @@ impl<PB: Body> ResponseMutUninit<PB> {
         hub: &'a Hub<QB, QH, PB, PH, K>,
     ) -> &'a PH
         requires { Names hub.now self.now kind.ResponseMutUninit }
-        ensures { IsSomeAnd (option_and_then response_in (handle_at hub.now self.now)) (λ m. result.now ≡ m.content.user_header) }
+        ensures { IsSomeAnd (option_and_then response_in (handle_at hub.now self.now))
+            (λ m. result.now ≡ m.content.user_header) }
     {
         hub.core.response_user_header(&self.id)
     }
 
-    /// Makes a response whose payload is complete one that can be sent. After iceoryx2's unsafe `ResponseMutUninit::assume_init`, whose
-    /// condition is the caller's here: `is_complete` tests it.
+    /// Makes a response with a complete payload ready to send. After iceoryx2's unsafe
+    /// `ResponseMutUninit::assume_init`, whose condition is the caller's here: `is_complete` tests it.
     #[inline(always)]
     pub fn assume_init<QB: Body, QH: Default + Drop, PH: Default + Drop, K: BackpressureFn>(
         self,
         hub: &mut Hub<QB, QH, PB, PH, K>,
     ) -> ResponseMut<PB>
         requires kind { Names hub.old self kind.ResponseMutUninit }
-        requires complete { IsSomeAnd (option_and_then response_in (handle_at hub.old self)) (λ m. is_complete m.content ≡ true) }
+        requires complete { IsSomeAnd (option_and_then response_in (handle_at hub.old self))
+            (λ m. is_complete m.content ≡ true) }
         ensures same { result ≡ self }
         ensures initialised { hub.new ≡ with_changed hub.old self after_init }
         ensures kind { Names hub.new result kind.ResponseMut }
@@ -128,7 +132,7 @@ impl<PB: Body> ResponseMutUninit<PB> {
         }
     }
 
-    /// Releases the response, which is never sent. Replaces the `Drop` of iceoryx2's `ResponseMutUninit`.
+    /// Releases the response without sending it. Replaces the `Drop` of iceoryx2's `ResponseMutUninit`.
     #[inline(always)]
     pub fn release<QB: Body, QH: Default + Drop, PH: Default + Drop, K: BackpressureFn>(
         self,
@@ -138,10 +142,13 @@ impl<PB: Body> ResponseMutUninit<PB> {
         ensures released { hub.new ≡ after_release hub.old self }
         ensures keeps { Keeps (self ∷ []) hub.old hub.new }
         ensures numbers { numbers_left hub.new ≡ numbers_left hub.old }
-        ensures heard { (port request : ℕ) → Has hub.old self (Of port request) → Names hub.old port kind.Server → KeepsHeard (self ∷ []) hub.old hub.new }
-        ensures awaited { (port request : ℕ) → Has hub.old self (Of port request) → Names hub.old port kind.Server → KeepsAwaited (self ∷ []) hub.old hub.new }
+        ensures heard { (port request : ℕ) → Has hub.old self (Of port request) → Names hub.old port kind.Server
+            → KeepsHeard (self ∷ []) hub.old hub.new }
+        ensures awaited { (port request : ℕ) → Has hub.old self (Of port request) → Names hub.old port kind.Server
+            → KeepsAwaited (self ∷ []) hub.old hub.new }
         ensures owned { KeepsOwned [] hub.old hub.new }
-        ensures frees { (port request most : ℕ) → Has hub.old self (Of port request) → Owns hub.old port (suc most) → Owns hub.new port most }
+        ensures frees { (port request most : ℕ) → Has hub.old self (Of port request) → Owns hub.old port (suc most)
+            → Owns hub.new port most }
     {
         let ResponseMutUninit { id, of: _ } = self;
         hub.core.release_response_loan(&id);
@@ -149,14 +156,15 @@ impl<PB: Body> ResponseMutUninit<PB> {
 }
 
 impl<PB: WriteBody> ResponseMutUninit<PB> {
-    /// Returns whether as many elements were written as were asked for. Not in iceoryx2.
+    /// Returns whether all elements of the loan were written. Not in iceoryx2.
     #[inline(always)]
     pub fn is_complete<QB: Body, QH: Default + Drop, PH: Default + Drop, K: BackpressureFn>(
         &self,
         hub: &Hub<QB, QH, PB, PH, K>,
     ) -> bool
         requires { Names hub.now self.now kind.ResponseMutUninit }
-        ensures { IsSomeAnd (option_and_then response_in (handle_at hub.now self.now)) (λ m. result ≡ is_complete m.content) }
+        ensures { IsSomeAnd (option_and_then response_in (handle_at hub.now self.now))
+            (λ m. result ≡ is_complete m.content) }
     {
         hub.core.response_body(&self.id).is_complete()
     }

@@ -68,7 +68,7 @@ impl<PB> Model for Server<PB> {
     ghost view = { λ handle. handle.number };
 }
 
-/// Makes the value of a port that was created.
+/// Makes the port's value from its creation.
 pub(crate) fn created<PB>(
     number: Result<u64, ServerCreateError>,
 ) -> Result<Server<PB>, ServerCreateError>
@@ -92,7 +92,7 @@ impl<PB: Body> Server<PB> {
         UniqueServerId(self.number)
     }
 
-    /// Returns what the server's sends do at a full queue. After iceoryx2's `Server::backpressure_strategy`.
+    /// Returns the strategy of the server's sends at a full queue. After iceoryx2's `Server::backpressure_strategy`.
     #[inline(always)]
     pub fn backpressure_strategy<
         QB: Body,
@@ -106,11 +106,12 @@ impl<PB: Body> Server<PB> {
         hub.core.server_backpressure_strategy(self.number)
     }
 
-    /// Returns whether a request is queued, also one that nobody waits for. After iceoryx2's `Server::has_requests`.
+    /// Returns whether a request is queued, even if nobody waits for its answer any more. After iceoryx2's
+    /// `Server::has_requests`.
     ///
     /// # Errors
     ///
-    /// None comes: no connection of one process fails.
+    /// Never returns an error: no connection within one process fails.
     #[inline(always)]
     pub fn has_requests<QB: Body, QH: Default + Drop, PH: Default + Drop, K: BackpressureFn>(
         &self,
@@ -123,15 +124,16 @@ impl<PB: Body> Server<PB> {
         Ok(hub.core.has_requests(self.number))
     }
 
-    /// Receives the oldest request of some client, under the next number, of which one is left. Receives go round: the client after
-    /// the one that was heard last comes first. Drops requests whose pending responses were released on the way, where they are the
-    /// oldest of their clients, unless the limits have fire-and-forget requests. Returns `None` if no request is queued then. Takes no
-    /// memory. After iceoryx2's `Server::receive`.
+    /// Receives the oldest request of a client, under the next number; at least one must be left. Receives are round
+    /// robin: the client after the one served last comes first. Unless the limits allow fire-and-forget requests,
+    /// drops requests at the front of a queue whose pending responses were released. Returns `None` if no request is
+    /// queued then. Takes no memory. After iceoryx2's `Server::receive`.
     ///
     /// # Errors
     ///
-    /// - `ExceedsMaxBorrows` if every queue that has a request is at its borrow limit. Requests that were dropped stay dropped, and
-    ///   nothing else changes. Not if fewer handles of the server live than it may have active requests of a client (`few_borrows`).
+    /// - `ExceedsMaxBorrows` if every queue that has a request is at its borrow limit. Requests dropped on the way
+    ///   stay dropped; nothing else changes. Never if fewer handles of the server live than a server may have active
+    ///   requests per client (`few_borrows`).
     #[inline(always)]
     pub fn receive<QB: Body, QH: Default + Drop, PH: Default + Drop, K: BackpressureFn>(
         &self,
@@ -142,29 +144,38 @@ impl<PB: Body> Server<PB> {
         ensures receives { ReceivesRequest hub.old self.now result hub.new }
         ensures free { IfOk result (λ received. IfSome received (λ active. IsFree [] hub.old active)) }
         ensures kind { IfOk result (λ received. IfSome received (λ active. Names hub.new active kind.ActiveRequest)) }
-        ensures pool { (room : ℕ) → Has hub.old self.now (WholePool room) → IfOk result (λ received. IfSome received (λ active. Has hub.new active (WholePool room))) }
+        ensures pool { (room : ℕ) → Has hub.old self.now (WholePool room)
+            → IfOk result (λ received. IfSome received (λ active. Has hub.new active (WholePool room))) }
         ensures keeps { Keeps [] hub.old hub.new }
         ensures numbers { numbers_left hub.old ≤ numbers_left hub.new + 1 }
-        ensures of { (pending : ℕ) → Hears hub.old self.now pending → IfOk result (λ received. IfSome received (λ active. Has hub.new active (Of self.now pending))) }
-        ensures asks { (pending : ℕ) (xs : List QB.Item) → Hears hub.old self.now pending → Has hub.old pending (Asks xs) → IfOk result (λ received. IfSome received (λ active. Has hub.new active (Asks xs))) }
+        ensures of { (pending : ℕ) → Hears hub.old self.now pending
+            → IfOk result (λ received. IfSome received (λ active. Has hub.new active (Of self.now pending))) }
+        ensures asks { (pending : ℕ) (xs : List QB.Item) → Hears hub.old self.now pending
+            → Has hub.old pending (Asks xs) → IfOk result
+            (λ received. IfSome received (λ active. Has hub.new active (Asks xs))) }
         ensures missed { (pending : ℕ) → Hears hub.old self.now pending → result ≢ Ok None }
-        ensures port { IfOk result (λ received. IfSome received (λ active. (request : ℕ) × Has hub.new active (Of self.now request))) }
-        ensures quiet { (pending : ℕ) → Hears hub.old self.now pending → IfOk result (λ received. HearsNothing hub.new self.now) }
+        ensures port { IfOk result (λ received. IfSome received
+            (λ active. (request : ℕ) × Has hub.new active (Of self.now request))) }
+        ensures quiet { (pending : ℕ) → Hears hub.old self.now pending
+            → IfOk result (λ received. HearsNothing hub.new self.now) }
         ensures heard { KeepsHeard (self.now ∷ []) hub.old hub.new }
         ensures awaited { KeepsAwaited [] hub.old hub.new }
         ensures owned { KeepsOwned (self.now ∷ []) hub.old hub.new }
-        ensures owns { (most : ℕ) → Owns hub.old self.now most → IfOk result (λ received. IfSome received (λ active. Owns hub.new self.now (suc most))) }
+        ensures owns { (most : ℕ) → Owns hub.old self.now most
+            → IfOk result (λ received. IfSome received (λ active. Owns hub.new self.now (suc most))) }
         ensures owns_none { result ≡ Ok None → KeepsOwned [] hub.old hub.new }
         ensures owns_err { IfErr result (λ error. KeepsOwned [] hub.old hub.new) }
-        ensures few_borrows { (most : ℕ) → Owns hub.old self.now most → IsBelow most hub.old.limits.max_active_requests_per_client → result ≢ Err ReceiveError.ExceedsMaxBorrows }
+        ensures few_borrows { (most : ℕ) → Owns hub.old self.now most
+            → IsBelow most hub.old.limits.max_active_requests_per_client
+            → result ≢ Err ReceiveError.ExceedsMaxBorrows }
         ensures sure { Owns hub.old self.now 0 → (error : _) → result ≢ Err error }
     {
         hub.core.reached();
         active_request::received(hub.core.receive_request(self.number))
     }
 
-    /// Releases the server. It stays connected as long as one of its handles lives, and leaves with the last of them. Replaces the
-    /// `Drop` of iceoryx2's `Server`.
+    /// Releases the server. It stays connected as long as one of its handles lives, and is disconnected with the last
+    /// of them. Replaces the `Drop` of iceoryx2's `Server`.
     #[inline(always)]
     pub fn release<QB: Body, QH: Default + Drop, PH: Default + Drop, K: BackpressureFn>(
         self,

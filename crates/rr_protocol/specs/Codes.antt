@@ -1,4 +1,4 @@
--- Codes of states and of their parts, by which contracts tell states apart.
+-- Codes of states and of their parts, which distinguish states for the prover.
 use Rattle.std.specs.Prelude.{◌≡◌, ◌⊎◌, ℕ, Bool, true, false, if◌then◌else◌, List, Option, refl}
 use Rattle.std.proofs.Common.{inl, inr}
 use Rattle.std.specs.Coded.{Coded, code_by, coded×, coded⊎, coded_ℕ, coded_bool, coded_list, coded_option}
@@ -23,7 +23,8 @@ module _ {A X : Type 0} {cmp : A → A → Ordering} where
 
 abbrev pub request_key_code : Coded RequestKey
 request_key_code =
-    code_by (ℕ × ℕ) (coded× coded_ℕ coded_ℕ) (λ k. (k.client, k.server)) (λ p. record { client = p.0; server = p.1 }) (λ _. refl)
+    code_by (ℕ × ℕ) (coded× coded_ℕ coded_ℕ) (λ k. (k.client, k.server)) (λ p. record { client = p.0; server = p.1 })
+    (λ _. refl)
 
 abbrev pub response_key_code : Coded ResponseKey
 response_key_code =
@@ -35,8 +36,40 @@ limits_code =
     let number = coded_ℕ in
     let flag = coded_bool in
     code_by (ℕ × (ℕ × (ℕ × (ℕ × (ℕ × (ℕ × (Bool × (Bool × (Bool × (ℕ × ℕ))))))))))
-    (coded× number (coded× number (coded× number (coded× number (coded× number (coded× number (coded× flag (coded× flag (coded× flag (coded× number number))))))))))
-    (λ l. (l.max_clients, (l.max_servers, (l.max_loaned_requests, (l.max_active_requests_per_client, (l.max_response_buffer_size, (l.max_borrowed_responses_per_pending_response, (l.enable_safe_overflow_for_requests, (l.enable_safe_overflow_for_responses, (l.enable_fire_and_forget_requests, (l.client_expired_connection_buffer, l.server_expired_connection_buffer)))))))))))
+    (coded× number (coded× number (coded× number
+    (coded× number (coded× number (coded× number
+    (coded× flag (coded× flag (coded× flag (coded× number number))))))))))
+    (λ l. (
+      l.max_clients,
+      (
+        l.max_servers,
+        (
+          l.max_loaned_requests,
+          (
+            l.max_active_requests_per_client,
+            (
+              l.max_response_buffer_size,
+              (
+                l.max_borrowed_responses_per_pending_response,
+                (
+                  l.enable_safe_overflow_for_requests,
+                  (
+                    l.enable_safe_overflow_for_responses,
+                    (
+                      l.enable_fire_and_forget_requests,
+                      (
+                        l.client_expired_connection_buffer,
+                        l.server_expired_connection_buffer,
+                      ),
+                    ),
+                  ),
+                ),
+              ),
+            ),
+          ),
+        ),
+      ),
+    ))
     (λ p. record {
       max_clients = p.0;
       max_servers = p.1.0;
@@ -61,15 +94,27 @@ module _ {T H : Type 0} where
 
   abbrev pub request_code : Coded T → Coded H → Coded (RequestMessage T H)
   request_code t h =
-      code_by (ℕ × (ℕ × (ℕ × (ℕ × Content T H)))) (coded× coded_ℕ (coded× coded_ℕ (coded× coded_ℕ (coded× coded_ℕ (content_code t h)))))
+      code_by (ℕ × (ℕ × (ℕ × (ℕ × Content T H))))
+      (coded× coded_ℕ (coded× coded_ℕ (coded× coded_ℕ (coded× coded_ℕ (content_code t h)))))
       (λ m. (m.number, (m.client, (m.request_id, (m.channel, m.content)))))
-      (λ p. record { number = p.0; client = p.1.0; request_id = p.1.1.0; channel = p.1.1.1.0; content = p.1.1.1.1 }) (λ _. refl)
+      (λ p. record { number = p.0; client = p.1.0; request_id = p.1.1.0; channel = p.1.1.1.0; content = p.1.1.1.1 })
+      (λ _. refl)
 
   abbrev pub response_code : Coded T → Coded H → Coded (ResponseMessage T H)
   response_code t h =
       code_by (ℕ × (ℕ × (ℕ × (ℕ × (ℕ × (ℕ × (ℕ × Content T H)))))))
-      (coded× coded_ℕ (coded× coded_ℕ (coded× coded_ℕ (coded× coded_ℕ (coded× coded_ℕ (coded× coded_ℕ (coded× coded_ℕ (content_code t h))))))))
-      (λ m. (m.number, (m.server, (m.active_request, (m.request, (m.request_id, (m.client, (m.channel, m.content))))))))
+      (coded× coded_ℕ (coded× coded_ℕ (coded× coded_ℕ
+      (coded× coded_ℕ (coded× coded_ℕ (coded× coded_ℕ (coded× coded_ℕ (content_code t h))))))))
+      (λ m. (
+        m.number,
+        (
+          m.server,
+          (
+            m.active_request,
+            (m.request, (m.request_id, (m.client, (m.channel, m.content)))),
+          ),
+        ),
+      ))
       (λ p. record {
         number = p.0;
         server = p.1.0;
@@ -83,7 +128,8 @@ module _ {T H : Type 0} where
 
   abbrev pub pending_code : Coded T → Coded H → Coded (Pending T H)
   pending_code t h =
-      code_by (RequestMessage T H × (Bool × (ℕ × List ℕ))) (coded× (request_code t h) (coded× coded_bool (coded× coded_ℕ (coded_list coded_ℕ))))
+      code_by (RequestMessage T H × (Bool × (ℕ × List ℕ)))
+      (coded× (request_code t h) (coded× coded_bool (coded× coded_ℕ (coded_list coded_ℕ))))
       (λ p. (p.message, (p.hint, (p.connections, p.servers))))
       (λ p. record { message = p.0; hint = p.1.0; connections = p.1.1.0; servers = p.1.1.1 }) (λ _. refl)
 
@@ -95,7 +141,8 @@ module _ {T H : Type 0} where
 -- a handle as the message of one of seven kinds
 abbrev pub HandleParts : Type 0 → Type 0 → Type 0 → Type 0 → Type 0
 HandleParts Q QH P PH =
-    RequestMessage Q QH ⊎ (RequestMessage Q QH ⊎ (Pending Q QH ⊎ (Active Q QH ⊎ (ResponseMessage P PH ⊎ (ResponseMessage P PH ⊎ ResponseMessage P PH)))))
+    RequestMessage Q QH ⊎ (RequestMessage Q QH
+    ⊎ (Pending Q QH ⊎ (Active Q QH ⊎ (ResponseMessage P PH ⊎ (ResponseMessage P PH ⊎ ResponseMessage P PH)))))
 
 module _ {Q QH P PH : Type 0} where
   abbrev pub parts_of : Handle Q QH P PH → HandleParts Q QH P PH
@@ -130,7 +177,8 @@ module _ {Q QH P PH : Type 0} where
       let request = request_code q qh in
       let response = response_code p ph in
       code_by (HandleParts Q QH P PH)
-      (coded⊎ request (coded⊎ request (coded⊎ (pending_code q qh) (coded⊎ (active_code q qh) (coded⊎ response (coded⊎ response response))))))
+      (coded⊎ request (coded⊎ request (coded⊎ (pending_code q qh)
+      (coded⊎ (active_code q qh) (coded⊎ response (coded⊎ response response))))))
       parts_of handle_of handle_of-parts_of
 
 abbrev pub strategy_flag : BackpressureStrategy → Bool
@@ -163,14 +211,28 @@ allocation_of_flags-allocation_flags PowerOfTwo = refl
 
 abbrev pub allocation_code : Coded AllocationStrategy
 allocation_code =
-    code_by (Bool × Bool) (coded× coded_bool coded_bool) allocation_flags allocation_of_flags allocation_of_flags-allocation_flags
+    code_by (Bool × Bool) (coded× coded_bool coded_bool) allocation_flags allocation_of_flags
+    allocation_of_flags-allocation_flags
 
 module _ {K : Type 0} where
   abbrev pub port_code : Coded K → Coded (Port K)
   port_code k =
       code_by (ℕ × (BackpressureStrategy × (Option K × (AllocationStrategy × (ℕ × (ℕ × Bool))))))
-      (coded× coded_ℕ (coded× strategy_code (coded× (coded_option k) (coded× allocation_code (coded× coded_ℕ (coded× coded_ℕ coded_bool))))))
-      (λ p. (p.id, (p.strategy, (p.handler, (p.allocation_strategy, (p.initial_max_slice_len, (p.pool_size, p.has_value)))))))
+      (coded× coded_ℕ (coded× strategy_code (coded× (coded_option k)
+      (coded× allocation_code (coded× coded_ℕ (coded× coded_ℕ coded_bool))))))
+      (λ p. (
+        p.id,
+        (
+          p.strategy,
+          (
+            p.handler,
+            (
+              p.allocation_strategy,
+              (p.initial_max_slice_len, (p.pool_size, p.has_value)),
+            ),
+          ),
+        ),
+      ))
       (λ p. record {
         id = p.0;
         strategy = p.1.0;
@@ -183,20 +245,37 @@ module _ {K : Type 0} where
 
   abbrev pub client_code : Coded K → Coded (Client K)
   client_code k =
-      code_by (Port K × ℕ) (coded× (port_code k) coded_ℕ) (λ c. (c.port, c.loans_made)) (λ p. record { port = p.0; loans_made = p.1 }) (λ _. refl)
+      code_by (Port K × ℕ) (coded× (port_code k) coded_ℕ) (λ c. (c.port, c.loans_made))
+      (λ p. record { port = p.0; loans_made = p.1 }) (λ _. refl)
 
   abbrev pub server_code : Coded K → Coded (Server K)
   server_code k =
       code_by (Port K × ℕ) (coded× (port_code k) coded_ℕ)
-      (λ s. (s.port, s.max_loaned_responses_per_request)) (λ p. record { port = p.0; max_loaned_responses_per_request = p.1 }) (λ _. refl)
+      (λ s. (s.port, s.max_loaned_responses_per_request))
+      (λ p. record { port = p.0; max_loaned_responses_per_request = p.1 }) (λ _. refl)
 
 module _ {Q QH P PH K : Type 0} where
   abbrev pub state_code : Coded Q → Coded QH → Coded P → Coded PH → Coded K → Coded (State Q QH P PH K)
   state_code q qh p ph k =
       code_by
-      (Limits × (ℕ × (List (Client K) × (List (Server K) × (fin_map.FinMap nat_cmp (Handle Q QH P PH) × (Lists request_key_cmp (RequestMessage Q QH) × (Lists response_key_cmp (ResponseMessage P PH) × (Lists nat_cmp ℕ × ℕ))))))))
-      (coded× limits_code (coded× coded_ℕ (coded× (coded_list (client_code k)) (coded× (coded_list (server_code k)) (coded× (fin_map.code coded_ℕ (handle_code q qh p ph)) (coded× (lists_code request_key_code (request_code q qh)) (coded× (lists_code response_key_code (response_code p ph)) (coded× (lists_code coded_ℕ coded_ℕ) coded_ℕ))))))))
-      (λ s. (s.limits, (s.node_id, (s.clients, (s.servers, (s.handles, (s.requests, (s.responses, (s.expired, s.next)))))))))
+      (Limits × (ℕ × (List (Client K) × (List (Server K)
+      × (fin_map.FinMap nat_cmp (Handle Q QH P PH)
+      × (Lists request_key_cmp (RequestMessage Q QH)
+      × (Lists response_key_cmp (ResponseMessage P PH) × (Lists nat_cmp ℕ × ℕ))))))))
+      (coded× limits_code (coded× coded_ℕ (coded× (coded_list (client_code k))
+      (coded× (coded_list (server_code k)) (coded× (fin_map.code coded_ℕ (handle_code q qh p ph))
+      (coded× (lists_code request_key_code (request_code q qh))
+      (coded× (lists_code response_key_code (response_code p ph)) (coded× (lists_code coded_ℕ coded_ℕ) coded_ℕ))))))))
+      (λ s. (
+        s.limits,
+        (
+          s.node_id,
+          (
+            s.clients,
+            (s.servers, (s.handles, (s.requests, (s.responses, (s.expired, s.next))))),
+          ),
+        ),
+      ))
       (λ p. record {
         limits = p.0;
         node_id = p.1.0;

@@ -1,4 +1,4 @@
--- What is counted in a state: live messages, loans, borrows, and who is connected or alive.
+-- Counts of a state: live messages, loans, borrows; and which ports are connected or alive.
 use Rattle.std.specs.Prelude.{ℕ, ◌+◌, Bool, false, ◌&&◌, ◌||◌, ◌==◌, nat_lt, if◌then◌else◌, List, [], ◌∷◌, ◌++◌, map, filter, filter_map, count_by, is_some}
 use Rattle.std.specs.List.{list_any}
 use Rattle.rr_protocol.specs.Lists.{all_elements}
@@ -6,19 +6,19 @@ use Rattle.rr_protocol.specs.Keys.{RequestKey, ResponseKey}
 use Rattle.rr_protocol.specs.Messages.{Handle, RequestMutUninit, RequestMut, PendingResponse, ActiveRequest, ResponseMutUninit, ResponseMut, Response, request_in, response_in, port_of}
 use Rattle.rr_protocol.specs.State.{State, is_client_value, is_server_value, pending_at, all_handles}
 
--- how many different numbers stand in a list
+-- the number of distinct numbers in a list
 abbrev pub distinct_count : List ℕ → ℕ
 distinct_count [] = 0
 distinct_count (n ∷ ns) = (if list_any (λ m. m == n) ns then 0 else 1) + distinct_count ns
 
 module _ {Q QH P PH : Type 0} where
-  -- a request that this client loaned, and neither sent nor released
+  -- a request that this client loaned and has neither sent nor released
   abbrev pub is_request_loan : ℕ → Handle Q QH P PH → Bool
   is_request_loan client (RequestMutUninit m) = m.client == client
   is_request_loan client (RequestMut m) = m.client == client
   is_request_loan client _ = false
 
-  -- a response that this server loaned, and neither sent nor released
+  -- a response that this server loaned and has neither sent nor released
   abbrev pub is_response_loan : ℕ → Handle Q QH P PH → Bool
   is_response_loan server (ResponseMutUninit m) = m.server == server
   is_response_loan server (ResponseMut m) = m.server == server
@@ -53,13 +53,13 @@ module _ {Q QH P PH : Type 0} where
   holds_channel client channel _ = false
 
 module _ {Q QH P PH K : Type 0} where
-  -- the requests of a client that stand in a handle or in a list, each counted once
+  -- the live requests of a client, in a handle or in a list, each counted once
   abbrev pub live_requests : State Q QH P PH K → ℕ → ℕ
   live_requests s client =
       let messages = filter_map request_in (all_handles s) ++ all_elements s.requests in
       distinct_count (map (λ m. m.number) (filter (λ m. m.client == client) messages))
 
-  -- the responses of a server that stand in a handle or in a list, each counted once
+  -- the live responses of a server, in a handle or in a list, each counted once
   abbrev pub live_responses : State Q QH P PH K → ℕ → ℕ
   live_responses s server =
       let messages = filter_map response_in (all_handles s) ++ all_elements s.responses in
@@ -73,7 +73,7 @@ module _ {Q QH P PH K : Type 0} where
   abbrev pub loaned_responses : State Q QH P PH K → ℕ → ℕ
   loaned_responses s server = count_by (is_response_loan server) (all_handles s)
 
-  -- how many of those came from this active request
+  -- how many of them were loaned from this active request
   abbrev pub loaned_responses_from : State Q QH P PH K → ℕ → ℕ
   loaned_responses_from s active = count_by (is_response_loan_from active) (all_handles s)
 
@@ -81,13 +81,16 @@ module _ {Q QH P PH K : Type 0} where
   abbrev pub pending_responses : State Q QH P PH K → ℕ → ℕ
   pending_responses s client = count_by (is_pending_of client) (all_handles s)
 
-  -- whether fewer handles that came from this list live than its receiver may borrow
+  -- whether the number of live handles received from this list is below the receiver's borrow limit
   abbrev pub has_request_room : State Q QH P PH K → RequestKey → Bool
-  has_request_room s key = nat_lt (count_by (is_borrowed_request key) (all_handles s)) s.limits.max_active_requests_per_client
+  has_request_room s key =
+      nat_lt (count_by (is_borrowed_request key) (all_handles s)) s.limits.max_active_requests_per_client
 
   -- the same for responses, each channel by itself
   abbrev pub has_response_room : State Q QH P PH K → ResponseKey → Bool
-  has_response_room s key = nat_lt (count_by (is_borrowed_response key) (all_handles s)) s.limits.max_borrowed_responses_per_pending_response
+  has_response_room s key =
+      nat_lt (count_by (is_borrowed_response key) (all_handles s))
+      s.limits.max_borrowed_responses_per_pending_response
 
   -- a request is alive while its pending response lives
   abbrev pub is_alive : State Q QH P PH K → ℕ → Bool

@@ -1,4 +1,4 @@
--- Which list an entry stands in, and the order in which those keys are kept.
+-- The keys of lists of entries, and their order.
 use Rattle.std.specs.Prelude.{ℕ}
 use Rattle.std.specs.declared.cmp.Ordering.{Ordering}
 use Rattle.std.specs.Ordering.{ordering_then, nat_cmp}
@@ -25,4 +25,5 @@ request_key_cmp a b = ordering_then (nat_cmp a.client b.client) (nat_cmp a.serve
 -- by server, then by client, and then by channel
 abbrev pub response_key_cmp : ResponseKey → ResponseKey → Ordering
 response_key_cmp a b =
-    ordering_then (nat_cmp a.server b.server) (ordering_then (nat_cmp a.client b.client) (nat_cmp a.channel b.channel))
+    ordering_then (nat_cmp a.server b.server)
+    (ordering_then (nat_cmp a.client b.client) (nat_cmp a.channel b.channel))

@@ -15,3 +15,11 @@ pub mod Receives
 pub mod Creation
 pub mod Codes
 pub mod Settings
+pub mod Items
+pub mod Payloads
+pub mod Refusals
+pub mod Step
+pub mod Run
+pub mod PortRun
+pub mod AnswerRule
+pub mod Continuing

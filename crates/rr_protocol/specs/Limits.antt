@@ -1,4 +1,4 @@
--- The sizes of pools that the limits call for, and which limits make no hub.
+-- The pool sizes that follow from limits, and the limits that no hub can have.
 use Rattle.std.specs.Prelude.{ℕ, ◌+◌, ◌*◌, ◌^◌, Bool, true, ◌||◌, ◌==◌, nat_le, if◌then◌else◌, Option, Some, None}
 use Rattle.rr_protocol.specs.declared.limits.Limits.{Limits}
 use Rattle.rr_protocol.specs.declared.error.HubCreateError.{HubCreateError}
@@ -17,9 +17,10 @@ max_loaned_responses l loans = loans * l.max_active_requests_per_client * l.max_
 abbrev pub worst_case_responses : Limits → ℕ → ℕ
 worst_case_responses l loans =
     max_loaned_responses l loans
-    + l.max_clients * (l.max_active_requests_per_client * l.max_response_buffer_size + worst_case_requests l * l.max_borrowed_responses_per_pending_response)
+    + l.max_clients * (l.max_active_requests_per_client * l.max_response_buffer_size + worst_case_requests l *
+    l.max_borrowed_responses_per_pending_response)
 
--- whether a size is past the largest `usize`
+-- whether a size overflows a `usize`
 abbrev pub is_too_large : ℕ → Bool
 is_too_large size = nat_le (2 ^ 64) size
 
@@ -29,14 +30,14 @@ has_zero_limit l =
     l.max_clients == 0 || l.max_servers == 0 || l.max_loaned_requests == 0 || l.max_active_requests_per_client == 0
     || l.max_response_buffer_size == 0 || l.max_borrowed_responses_per_pending_response == 0
 
--- the first reason against a hub with these limits
+-- the first reason that refuses a hub with these limits
 abbrev pub hub_refusal : Limits → Option HubCreateError
 hub_refusal l =
     if has_zero_limit l then Some ZeroLimit
     else if is_too_large (worst_case_requests l) || is_too_large (worst_case_responses l 1) then Some LimitsTooLarge
     else None
 
--- what a service of iceoryx2 has, if nobody sets a limit
+-- iceoryx2's default limits of a service
 abbrev pub default_limits : Limits
 default_limits = record {
   max_clients = 8;

@@ -12,21 +12,21 @@ use Rattle.rr_protocol.specs.Ports.{Port, Client, Server}
 use Rattle.rr_protocol.specs.State.{State, IsActiveAnd, client_at, all_handles}
 use Rattle.rr_protocol.specs.Counts.{live_requests, live_responses, loaned_requests, loaned_responses, loaned_responses_from, holds_channel}
 
--- whether a port gets no room for longer slices than it was made with
+-- whether a port's slots don't grow for longer slices
 abbrev pub is_static : AllocationStrategy → Bool
 is_static Static = true
 is_static BestFit = false
 is_static PowerOfTwo = false
 
--- whether a slice is longer than this port has room for, and may not get more
+-- whether a slice is longer than this port's slots, which may not grow
 abbrev pub is_too_long : {K : Type 0} → Port K → ℕ → Bool
 is_too_long port len = is_static port.allocation_strategy && nat_lt port.initial_max_slice_len len
 
--- a body without elements, for this many
+-- a body without elements, of this loaned length
 abbrev pub empty_content : {T H : Type 0} → H → ℕ → Content T H
 empty_content header len = record { user_header = header; asked_len = len; elements = [] }
 
--- the error is the one that is due, or, where none is, want of memory for a slice longer than the initial length
+-- the error is the required one, or, if none is required, want of memory for a slice longer than the initial length
 abbrev pub IsLoanRefusal : {K : Type 0} → Option LoanError → Port K → ℕ → LoanError → Type 0
 IsLoanRefusal (Some due) port len error = error ≡ due
 IsLoanRefusal None port len error = (error ≡ OutOfMemory) × (port.initial_max_slice_len < len)
@@ -36,7 +36,7 @@ abbrev pub with_loan_counted : {K : Type 0} → ℕ → Client K → Client K
 with_loan_counted n client = if client.id == n then record client { loans_made = client.loans_made + 1 } else client
 
 module _ {Q QH P PH K : Type 0} where
-  -- the first reason against a loan of a request
+  -- the first reason that refuses a loan of a request
   abbrev pub request_loan_refusal : State Q QH P PH K → Client K → ℕ → Option LoanError
   request_loan_refusal s client len =
       if is_too_long client.port len then Some ExceedsMaxLoanSize
@@ -46,7 +46,8 @@ module _ {Q QH P PH K : Type 0} where
 
   -- a channel of the client that none of its requests holds
   abbrev pub IsFreeChannel : State Q QH P PH K → Client K → ℕ → Type 0
-  IsFreeChannel s client channel = (channel < client.pool_size) × (list_any (holds_channel client.id channel) (all_handles s) ≡ false)
+  IsFreeChannel s client channel =
+      (channel < client.pool_size) × (list_any (holds_channel client.id channel) (all_handles s) ≡ false)
 
   -- after the client loaned a request with this length, on this channel and with this user header
   abbrev pub with_loaned_request : State Q QH P PH K → Client K → ℕ → ℕ → QH → State Q QH P PH K
@@ -63,22 +64,26 @@ module _ {Q QH P PH K : Type 0} where
         next = s.next + 1;
       }
 
-  -- a client asks for a request: it gets the next number, any free channel and a default user header, or nothing changes
-  abbrev pub LoansRequest : (QH → Type 0) → State Q QH P PH K → ℕ → ℕ → Result ℕ LoanError → State Q QH P PH K → Type 0
+  -- a client loans a request: it gets the next number, any free channel and a default user header, or nothing changes
+  abbrev pub LoansRequest : (QH → Type 0) → State Q QH P PH K → ℕ → ℕ → Result ℕ LoanError → State Q QH P PH K
+      → Type 0
   LoansRequest IsDefault old n len (Ok number) new =
       IsSomeAnd (client_at old n) (λ client.
       (request_loan_refusal old client len ≡ None) × (number ≡ old.next)
       × ((channel : ℕ) × (header : QH) × IsFreeChannel old client channel × IsDefault header
       × (new ≡ with_loaned_request old client len channel header)))
   LoansRequest IsDefault old n len (Err error) new =
-      IsSomeAnd (client_at old n) (λ client. IsLoanRefusal (request_loan_refusal old client len) client.port len error × (new ≡ old))
+      IsSomeAnd (client_at old n) (λ client. IsLoanRefusal (request_loan_refusal old client len) client.port len error
+      × (new ≡ old))
 
-  -- the first reason against a loan of a response from an active request
+  -- the first reason that refuses a loan of a response from an active request
   abbrev pub response_loan_refusal : State Q QH P PH K → Server K → ℕ → ℕ → Option LoanError
   response_loan_refusal s server active len =
       if is_too_long server.port len then Some ExceedsMaxLoanSize
-      else if nat_le server.max_loaned_responses_per_request (loaned_responses_from s active) then Some ExceedsMaxLoans
-      else if nat_le (max_loaned_responses s.limits server.max_loaned_responses_per_request) (loaned_responses s server.id) then Some ExceedsMaxLoans
+      else if nat_le server.max_loaned_responses_per_request (loaned_responses_from s active) then Some
+      ExceedsMaxLoans
+      else if nat_le (max_loaned_responses s.limits server.max_loaned_responses_per_request)
+      (loaned_responses s server.id) then Some ExceedsMaxLoans
       else if nat_le server.pool_size (live_responses s server.id) then Some OutOfMemory
       else None
 
@@ -99,11 +104,13 @@ module _ {Q QH P PH K : Type 0} where
         next = s.next + 1;
       }
 
-  -- an active request asks for a response: it gets the next number and a default user header, or nothing changes
-  abbrev pub LoansResponse : (PH → Type 0) → State Q QH P PH K → ℕ → ℕ → Result ℕ LoanError → State Q QH P PH K → Type 0
+  -- an active request loans a response: it gets the next number and a default user header, or nothing changes
+  abbrev pub LoansResponse : (PH → Type 0) → State Q QH P PH K → ℕ → ℕ → Result ℕ LoanError → State Q QH P PH K
+      → Type 0
   LoansResponse IsDefault old n len (Ok number) new =
       IsActiveAnd old n (λ server active.
       (response_loan_refusal old server n len ≡ None) × (number ≡ old.next)
       × ((header : PH) × IsDefault header × (new ≡ with_loaned_response old n active len header)))
   LoansResponse IsDefault old n len (Err error) new =
-      IsActiveAnd old n (λ server active. IsLoanRefusal (response_loan_refusal old server n len) server.port len error × (new ≡ old))
+      IsActiveAnd old n (λ server active. IsLoanRefusal (response_loan_refusal old server n len) server.port len error
+      × (new ≡ old))

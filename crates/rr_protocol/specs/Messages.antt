@@ -1,8 +1,8 @@
--- Messages by value, and the handles in which they stand.
+-- Messages by value, and the handles that have them.
 use Rattle.std.specs.Prelude.{ℕ, Bool, true, List, Option, Some, None}
 use Rattle.rr_protocol.specs.Keys.{ResponseKey}
 
--- what a message says: its user header, the asked length, and the elements so far
+-- the content of a message: its user header, the loaned length, and the elements so far
 pub record Content (T H : Type 0) : Type 0 where
   pub user_header : H
   pub asked_len : ℕ
@@ -51,7 +51,8 @@ pub data Handle (Q QH P PH : Type 0) : Type 0 where
 
 -- the list from a server to a pending response's channel
 abbrev pub response_key : {T H : Type 0} → Pending T H → ℕ → ResponseKey
-response_key pending server = record { server = server; client = pending.message.client; channel = pending.message.channel }
+response_key pending server =
+    record { server = server; client = pending.message.client; channel = pending.message.channel }
 
 module _ {Q QH P PH : Type 0} where
   -- the request in a handle that can be sent
@@ -59,12 +60,12 @@ module _ {Q QH P PH : Type 0} where
   as_request_mut (RequestMut m) = Some m
   as_request_mut _ = None
 
-  -- what a pending response keeps
+  -- the content of a pending response
   abbrev pub as_pending : Handle Q QH P PH → Option (Pending Q QH)
   as_pending (PendingResponse p) = Some p
   as_pending _ = None
 
-  -- what an active request keeps
+  -- the content of an active request
   abbrev pub as_active : Handle Q QH P PH → Option (Active Q QH)
   as_active (ActiveRequest a) = Some a
   as_active _ = None
@@ -74,7 +75,7 @@ module _ {Q QH P PH : Type 0} where
   as_response_mut (ResponseMut m) = Some m
   as_response_mut _ = None
 
-  -- the request that stands in a handle, if one does
+  -- the request in a handle, if it has one
   abbrev pub request_in : Handle Q QH P PH → Option (RequestMessage Q QH)
   request_in (RequestMutUninit m) = Some m
   request_in (RequestMut m) = Some m
@@ -82,14 +83,14 @@ module _ {Q QH P PH : Type 0} where
   request_in (ActiveRequest a) = Some a.message
   request_in _ = None
 
-  -- the response that stands in a handle, if one does
+  -- the response in a handle, if it has one
   abbrev pub response_in : Handle Q QH P PH → Option (ResponseMessage P PH)
   response_in (ResponseMutUninit m) = Some m
   response_in (ResponseMut m) = Some m
   response_in (Response m) = Some m
   response_in _ = None
 
-  -- the client or server whose handle it is
+  -- the client or server that owns the handle
   abbrev pub port_of : Handle Q QH P PH → ℕ
   port_of (RequestMutUninit m) = m.client
   port_of (RequestMut m) = m.client

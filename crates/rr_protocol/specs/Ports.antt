@@ -1,9 +1,9 @@
--- What is kept of a connected port.
+-- The state of a connected port.
 use Rattle.std.specs.Prelude.{ℕ, Bool, Option}
 use Rattle.rr_protocol.specs.declared.settings.BackpressureStrategy.{BackpressureStrategy}
 use Rattle.rr_protocol.specs.declared.settings.AllocationStrategy.{AllocationStrategy}
 
--- what clients and servers have in common. `has_value` says whether the port value lives
+-- the common part of clients and servers. `has_value` says whether the port value lives
 pub record Port (K : Type 0) : Type 0 where
   pub id : ℕ
   pub strategy : BackpressureStrategy

@@ -1,4 +1,4 @@
--- What the queries of a hub answer, none of which changes it.
+-- The answers of a hub's queries, none of which changes it.
 use Rattle.std.specs.Prelude.{◌≢◌, ℕ, Bool, false, if◌then◌else◌, [], Option, Some, option_map}
 use Rattle.std.specs.Option.{option_map_or}
 use Rattle.rr_protocol.specs.declared.kind.Kind.{Kind}
@@ -21,7 +21,7 @@ module _ {Q QH P PH : Type 0} where
   kind_of (Response m) = Kind.Response
 
 module _ {Q QH P PH K : Type 0} where
-  -- what a number names: a client or a server whose port value lives, or a handle
+  -- the kind of a number: a client or a server whose port value lives, or a handle
   abbrev pub kind_at : State Q QH P PH K → ℕ → Option Kind
   kind_at s n =
       if is_client_value s n then Some Kind.Client
@@ -40,7 +40,7 @@ module _ {Q QH P PH K : Type 0} where
   abbrev pub HasResponse : State Q QH P PH K → Pending Q QH → Type 0
   HasResponse s pending = (server : ℕ) × (at s.responses (response_key pending server) ≢ [])
 
-  -- what a request's header tells
+  -- the contents of a request's header
   abbrev pub request_header : State Q QH P PH K → RequestMessage Q QH → declared_request.RequestHeader
   request_header s m =
       record {
@@ -50,7 +50,7 @@ module _ {Q QH P PH K : Type 0} where
         node_id = record { 0 = s.node_id };
       }
 
-  -- what a response's header tells
+  -- the contents of a response's header
   abbrev pub response_header : State Q QH P PH K → ResponseMessage P PH → declared_response.ResponseHeader
   response_header s m =
       record {

@@ -10,7 +10,7 @@ use Rattle.rr_protocol.specs.Counts.{has_request_room, has_response_room, is_ali
 use Rattle.rr_protocol.specs.Releases.{without_empty_clients, without_empty_servers}
 
 module _ {Q QH P PH K : Type 0} where
-  -- a request that no server is handed any more
+  -- a dead request, which no server receives any more
   abbrev pub is_dead : State Q QH P PH K → RequestMessage Q QH → Bool
   is_dead s message = not (is_alive s message.number) && not s.limits.enable_fire_and_forget_requests
 
@@ -28,12 +28,16 @@ module _ {Q QH P PH K : Type 0} where
       (message : RequestMessage Q QH) × (mid : State Q QH P PH K) × IsTrue (is_dead old message)
       × TakesRequest old (request_key client server) message mid × Skims mid server clients new
 
-  -- after a server was handed a request
+  -- after a server received a request
   abbrev pub with_active_request : State Q QH P PH K → ℕ → RequestMessage Q QH → State Q QH P PH K
   with_active_request s server message =
-      record s { handles = fin_map.insert s.handles s.next (ActiveRequest (record { message = message; server = server })); next = s.next + 1 }
+      record s {
+        handles =
+            fin_map.insert s.handles s.next (ActiveRequest (record { message = message; server = server }));
+        next = s.next + 1;
+      }
 
-  -- what a server receives where nothing is skimmed
+  -- a server's receive without skimming
   abbrev pub ReceivesUnskimmed : State Q QH P PH K → ℕ → Result (Option ℕ) ReceiveError → State Q QH P PH K → Type 0
   -- the first request of some list with room, which is not dead
   ReceivesUnskimmed old server (Ok (Some number)) new =
@@ -46,15 +50,18 @@ module _ {Q QH P PH K : Type 0} where
       ((client : ℕ) → at old.requests (request_key client server) ≡ []) × (new ≡ old)
   -- all lists with room are empty, and one without room is not
   ReceivesUnskimmed old server (Err ReceiveError.ExceedsMaxBorrows) new =
-      ((client : ℕ) → IsTrue (has_request_room old (request_key client server)) → at old.requests (request_key client server) ≡ [])
-      × ((client : ℕ) × IsFalse (has_request_room old (request_key client server)) × (at old.requests (request_key client server) ≢ []))
+      ((client : ℕ) → IsTrue (has_request_room old (request_key client server))
+      → at old.requests (request_key client server) ≡ [])
+      × ((client : ℕ) × IsFalse (has_request_room old (request_key client server))
+      × (at old.requests (request_key client server) ≢ []))
       × (new ≡ old)
   ReceivesUnskimmed old server (Err (ReceiveError.ConnectionFailure failure)) new = ⊥
 
-  -- a server receives: dead requests may go first, then one request is handed out, or nothing can be
+  -- a server receives: dead requests may be dropped first; then one request is received, or none can be
   abbrev pub ReceivesRequest : State Q QH P PH K → ℕ → Result (Option ℕ) ReceiveError → State Q QH P PH K → Type 0
   ReceivesRequest old n result new =
-      IsSome (server_at old n) × ((skimmed : List ℕ) × (mid : State Q QH P PH K) × Skims old n skimmed mid × ReceivesUnskimmed mid n result new)
+      IsSome (server_at old n) × ((skimmed : List ℕ) × (mid : State Q QH P PH K) × Skims old n skimmed mid
+      × ReceivesUnskimmed mid n result new)
 
   -- this is the first response of a list with room, and it leaves the list
   abbrev pub TakesResponse : State Q QH P PH K → ResponseKey → ResponseMessage P PH → State Q QH P PH K → Type 0
@@ -70,7 +77,8 @@ module _ {Q QH P PH K : Type 0} where
       IsSomeAnd (pending_at old n) (λ pending.
       (server : ℕ) × (message : ResponseMessage P PH) × (mid : State Q QH P PH K)
       × TakesResponse old (response_key pending server) message mid
-      × (number ≡ message.number) × (new ≡ record mid { handles = fin_map.insert mid.handles number (Response message) }))
+      × (number ≡ message.number) × (new ≡ record mid
+      { handles = fin_map.insert mid.handles number (Response message) }))
   -- all lists are empty
   ReceivesResponse old n (Ok None) new =
       IsSomeAnd (pending_at old n) (λ pending.
@@ -78,7 +86,9 @@ module _ {Q QH P PH K : Type 0} where
   -- all lists with room are empty, and one without room is not
   ReceivesResponse old n (Err ReceiveError.ExceedsMaxBorrows) new =
       IsSomeAnd (pending_at old n) (λ pending.
-      ((server : ℕ) → IsTrue (has_response_room old (response_key pending server)) → at old.responses (response_key pending server) ≡ [])
-      × ((server : ℕ) × IsFalse (has_response_room old (response_key pending server)) × (at old.responses (response_key pending server) ≢ []))
+      ((server : ℕ) → IsTrue (has_response_room old (response_key pending server))
+      → at old.responses (response_key pending server) ≡ [])
+      × ((server : ℕ) × IsFalse (has_response_room old (response_key pending server))
+      × (at old.responses (response_key pending server) ≢ []))
       × (new ≡ old))
   ReceivesResponse old n (Err (ReceiveError.ConnectionFailure failure)) new = ⊥

@@ -15,15 +15,16 @@ use Rattle.rr_protocol.specs.Backpressure.{discards}
 use Rattle.rr_protocol.specs.Releases.{after_release}
 
 module _ {X : Type 0} where
-  -- whether a list has as many entries as it may
+  -- whether a list is full
   abbrev pub is_full : ℕ → List X → Bool
   is_full capacity entries = nat_le capacity (length entries)
 
-  -- whether a list can take no more, and drops nothing for it
+  -- whether a list is full and may not overflow
   abbrev pub is_blocked : Bool → ℕ → List X → Bool
   is_blocked overflow capacity entries = not overflow && is_full capacity entries
 
-  -- a list after a message came: at the end, in a full one in place of the oldest or not at all
+  -- a list after a message was sent to it: it is appended; in a full list it replaces the oldest entry, or is not
+  -- added
   abbrev pub put : Bool → ℕ → List X → X → List X
   put overflow capacity entries message =
       if not (is_full capacity entries) then entries ++ message ∷ []
@@ -44,30 +45,36 @@ module _ {Q QH P PH K : Type 0} where
 
   -- whether this list of requests is blocked
   abbrev pub is_request_list_blocked : State Q QH P PH K → RequestKey → Bool
-  is_request_list_blocked s key = is_blocked s.limits.enable_safe_overflow_for_requests s.limits.max_active_requests_per_client (at s.requests key)
+  is_request_list_blocked s key =
+      is_blocked s.limits.enable_safe_overflow_for_requests s.limits.max_active_requests_per_client
+      (at s.requests key)
 
-  -- whether this list of responses is
+  -- whether this list of responses is blocked
   abbrev pub is_response_list_blocked : State Q QH P PH K → ResponseKey → Bool
-  is_response_list_blocked s key = is_blocked s.limits.enable_safe_overflow_for_responses s.limits.max_response_buffer_size (at s.responses key)
+  is_response_list_blocked s key =
+      is_blocked s.limits.enable_safe_overflow_for_responses s.limits.max_response_buffer_size (at s.responses key)
 
   -- whether no list that a request reaches is blocked
   abbrev pub is_request_deliverable : State Q QH P PH K → RequestMessage Q QH → Bool
   is_request_deliverable s message = not (list_any (is_request_list_blocked s) (request_reach s message))
 
-  -- whether no list that a response reaches is
+  -- whether no list that a response reaches is blocked
   abbrev pub is_response_deliverable : State Q QH P PH K → ResponseMessage P PH → Bool
   is_response_deliverable s message = not (list_any (is_response_list_blocked s) (response_reach s message))
 
-  -- the lists after a request came to each that it reaches
+  -- the lists after a request was sent to each that it reaches
   abbrev pub with_request_put : State Q QH P PH K → RequestMessage Q QH → Lists request_key_cmp (RequestMessage Q QH)
   with_request_put s message =
-      fold (λ lists key. with_at lists key (put s.limits.enable_safe_overflow_for_requests s.limits.max_active_requests_per_client (at lists key) message))
+      fold (λ lists key. with_at lists key (put s.limits.enable_safe_overflow_for_requests
+      s.limits.max_active_requests_per_client (at lists key) message))
       s.requests (request_reach s message)
 
-  -- the lists after a response came to the one that it reaches
-  abbrev pub with_response_put : State Q QH P PH K → ResponseMessage P PH → Lists response_key_cmp (ResponseMessage P PH)
+  -- the lists after a response was sent to the one that it reaches
+  abbrev pub with_response_put : State Q QH P PH K → ResponseMessage P PH
+      → Lists response_key_cmp (ResponseMessage P PH)
   with_response_put s message =
-      fold (λ lists key. with_at lists key (put s.limits.enable_safe_overflow_for_responses s.limits.max_response_buffer_size (at lists key) message))
+      fold (λ lists key. with_at lists key (put s.limits.enable_safe_overflow_for_responses
+      s.limits.max_response_buffer_size (at lists key) message))
       s.responses (response_reach s message)
 
   -- how many lists take a request
@@ -75,24 +82,31 @@ module _ {Q QH P PH K : Type 0} where
   connections_of s message = count_by (λ key. not (is_request_list_blocked s key)) (request_reach s message)
 
 module _ {Q QH P PH K : Type 0} where
-  -- whether some list is blocked and its client doesn't pass it over
-  abbrev pub is_request_refused : (K → ℕ → ℕ → BackpressureAction) → State Q QH P PH K → Client K → RequestMessage Q QH → Bool
+  -- whether some list is blocked and its client doesn't skip it
+  abbrev pub is_request_refused : (K → ℕ → ℕ → BackpressureAction) → State Q QH P PH K → Client K
+      → RequestMessage Q QH → Bool
   is_request_refused action s client message =
-      list_any (λ key. is_request_list_blocked s key && not (discards action client.port key.server)) (request_reach s message)
+      list_any (λ key. is_request_list_blocked s key && not (discards action client.port key.server))
+      (request_reach s message)
 
-  -- whether some list is blocked and its server doesn't pass it over
-  abbrev pub is_response_refused : (K → ℕ → ℕ → BackpressureAction) → State Q QH P PH K → Server K → ResponseMessage P PH → Bool
+  -- whether some list is blocked and its server doesn't skip it
+  abbrev pub is_response_refused : (K → ℕ → ℕ → BackpressureAction) → State Q QH P PH K → Server K
+      → ResponseMessage P PH → Bool
   is_response_refused action s server message =
-      list_any (λ key. is_response_list_blocked s key && not (discards action server.port key.client)) (response_reach s message)
+      list_any (λ key. is_response_list_blocked s key && not (discards action server.port key.client))
+      (response_reach s message)
 
-  -- the first reason against sending a request
-  abbrev pub request_send_refusal : (K → ℕ → ℕ → BackpressureAction) → State Q QH P PH K → Client K → RequestMessage Q QH → Option RequestSendError
+  -- the first reason that refuses sending a request
+  abbrev pub request_send_refusal : (K → ℕ → ℕ → BackpressureAction) → State Q QH P PH K → Client K
+      → RequestMessage Q QH → Option RequestSendError
   request_send_refusal action s client message =
-      if nat_le s.limits.max_active_requests_per_client (pending_responses s client.id) then Some RequestSendError.ExceedsMaxActiveRequests
-      else if is_request_refused action s client message then Some (RequestSendError.SendError SendError.UnableToDeliver)
+      if nat_le s.limits.max_active_requests_per_client (pending_responses s client.id) then Some
+      RequestSendError.ExceedsMaxActiveRequests
+      else if is_request_refused action s client message then Some
+      (RequestSendError.SendError SendError.UnableToDeliver)
       else None
 
-  -- after a request came to the lists that take it, and waits for the connected servers
+  -- after a request was added to the lists that take it, and waits for the connected servers
   abbrev pub with_sent_request : State Q QH P PH K → ℕ → RequestMessage Q QH → State Q QH P PH K
   with_sent_request s n message =
       record s {
@@ -105,19 +119,25 @@ module _ {Q QH P PH K : Type 0} where
         }));
       }
 
-  -- a request is sent to as many lists as the result says, or a refusal equals its release
-  abbrev pub SendsRequest : (K → ℕ → ℕ → BackpressureAction) → State Q QH P PH K → ℕ → Result ℕ RequestSendError → State Q QH P PH K → Type 0
+  -- a request is sent, and the result is the number of lists that took it; or it is refused, and released
+  abbrev pub SendsRequest : (K → ℕ → ℕ → BackpressureAction) → State Q QH P PH K → ℕ → Result ℕ RequestSendError
+      → State Q QH P PH K → Type 0
   SendsRequest action old n (Ok connections) new =
       IsRequestMutAnd old n (λ client message.
-      (request_send_refusal action old client message ≡ None) × (connections ≡ connections_of old message) × (new ≡ with_sent_request old n message))
+      (request_send_refusal action old client message ≡ None) × (connections ≡ connections_of old message)
+      × (new ≡ with_sent_request old n message))
   SendsRequest action old n (Err error) new =
-      IsRequestMutAnd old n (λ client message. (request_send_refusal action old client message ≡ Some error) × (new ≡ after_release old n))
+      IsRequestMutAnd old n (λ client message. (request_send_refusal action old client message ≡ Some error)
+      × (new ≡ after_release old n))
 
-  -- a response is sent and its handle released, or a refusal equals its release
-  abbrev pub SendsResponse : {U : Type 0} → (K → ℕ → ℕ → BackpressureAction) → State Q QH P PH K → ℕ → Result U SendError → State Q QH P PH K → Type 0
+  -- a response is sent and its handle released; or it is refused, and released
+  abbrev pub SendsResponse : {U : Type 0} → (K → ℕ → ℕ → BackpressureAction) → State Q QH P PH K → ℕ
+      → Result U SendError → State Q QH P PH K → Type 0
   SendsResponse action old n (Ok _) new =
       IsResponseMutAnd old n (λ server message.
-      (is_response_refused action old server message ≡ false) × (new ≡ after_release (record old { responses = with_response_put old message }) n))
+      (is_response_refused action old server message ≡ false)
+      × (new ≡ after_release (record old { responses = with_response_put old message }) n))
   SendsResponse action old n (Err error) new =
       IsResponseMutAnd old n (λ server message.
-      (is_response_refused action old server message ≡ true) × (error ≡ SendError.UnableToDeliver) × (new ≡ after_release old n))
+      (is_response_refused action old server message ≡ true) × (error ≡ SendError.UnableToDeliver)
+      × (new ≡ after_release old n))

@@ -1,4 +1,4 @@
--- What contracts see of a hub: its connected ports, handles with their messages, and lists of entries.
+-- The state of a hub as contracts see it: its connected ports, handles with their messages, and lists of entries.
 use Rattle.std.specs.Prelude.{ℕ, ◌-◌, ◌^◌, Bool, ◌==◌, ◌&&◌, List, [], Option, IsSomeAnd, find, option_and_then}
 use Rattle.std.specs.List.{list_any}
 use Rattle.std.specs.Option.{option_map_or}
@@ -10,7 +10,8 @@ use Rattle.rr_protocol.specs.Lists.{Lists, no_lists}
 use Rattle.rr_protocol.specs.Keys.{request_key_cmp, response_key_cmp}
 use Rattle.rr_protocol.specs.Messages.{RequestMessage, ResponseMessage, Pending, Active, Handle, as_request_mut, as_pending, as_active, as_response_mut}
 
--- a hub: its ports in order of creation, its handles by number, what was sent and not received, and for each receiver the left senders whose entries it keeps, the oldest first
+-- a hub: its ports in order of creation, its handles by number, the lists of messages that were sent and not
+-- received, and for each receiver the senders that left whose entries it keeps, the oldest first
 pub record State (Q QH P PH K : Type 0) : Type 0 where
   pub limits : Limits
   pub node_id : ℕ
@@ -23,12 +24,23 @@ pub record State (Q QH P PH K : Type 0) : Type 0 where
   pub next : ℕ
 
 module _ {Q QH P PH K : Type 0} where
-  -- a hub in which nothing was made
+  -- a new hub, which is empty
   abbrev pub empty_hub : Limits → ℕ → State Q QH P PH K
   empty_hub limits node_id =
-      record { limits = limits; node_id = node_id; clients = []; servers = []; handles = fin_map.empty; requests = no_lists; responses = no_lists; expired = no_lists; next = 0 }
+      record {
+        limits =
+            limits;
+        node_id = node_id;
+        clients = [];
+        servers = [];
+        handles = fin_map.empty;
+        requests = no_lists;
+        responses = no_lists;
+        expired = no_lists;
+        next = 0;
+      }
 
-  -- how many numbers a hub can still give
+  -- how many numbers a hub has left to assign
   abbrev pub numbers_left : State Q QH P PH K → ℕ
   numbers_left s = 2 ^ 62 - s.next
 
@@ -70,20 +82,26 @@ module _ {Q QH P PH K : Type 0} where
 
   -- the number names a request that can be sent, and this holds of its client and of it
   abbrev pub IsRequestMutAnd : State Q QH P PH K → ℕ → (Client K → RequestMessage Q QH → Type 0) → Type 0
-  IsRequestMutAnd s n P = IsSomeAnd (request_at s n) (λ message. IsSomeAnd (client_at s message.client) (λ client. P client message))
+  IsRequestMutAnd s n P =
+      IsSomeAnd (request_at s n) (λ message. IsSomeAnd (client_at s message.client) (λ client. P client message))
 
   -- the number names a response that can be sent, and this holds of its server and of it
   abbrev pub IsResponseMutAnd : State Q QH P PH K → ℕ → (Server K → ResponseMessage P PH → Type 0) → Type 0
-  IsResponseMutAnd s n P = IsSomeAnd (response_at s n) (λ message. IsSomeAnd (server_at s message.server) (λ server. P server message))
+  IsResponseMutAnd s n P =
+      IsSomeAnd (response_at s n) (λ message. IsSomeAnd (server_at s message.server) (λ server. P server message))
 
   -- the number names an active request, and this holds of its server and of it
   abbrev pub IsActiveAnd : State Q QH P PH K → ℕ → (Server K → Active Q QH → Type 0) → Type 0
-  IsActiveAnd s n P = IsSomeAnd (active_at s n) (λ active. IsSomeAnd (server_at s active.server) (λ server. P server active))
+  IsActiveAnd s n P =
+      IsSomeAnd (active_at s n) (λ active. IsSomeAnd (server_at s active.server) (λ server. P server active))
 
   -- after the handle with this number became another, if there is one
   abbrev pub with_changed : State Q QH P PH K → ℕ → (Handle Q QH P PH → Handle Q QH P PH) → State Q QH P PH K
   with_changed s n change =
-      record s { handles = option_map_or (λ handle. fin_map.insert s.handles n (change handle)) (handle_at s n) s.handles }
+      record s {
+        handles =
+            option_map_or (λ handle. fin_map.insert s.handles n (change handle)) (handle_at s n) s.handles;
+      }
 
   -- every handle
   abbrev pub all_handles : State Q QH P PH K → List (Handle Q QH P PH)

@@ -10,7 +10,7 @@ pub enum HubCreateError {
     /// A worst-case pool of these limits is past `usize::MAX`.
     #[error("HubCreateError::LimitsTooLarge")]
     LimitsTooLarge,
-    /// Never comes: a hub takes no memory as it is made.
+    /// Never returned: making a hub takes no memory.
     #[error("HubCreateError::OutOfMemory")]
     OutOfMemory,
 }
@@ -21,10 +21,10 @@ pub enum ClientCreateError {
     /// Memory was refused.
     #[error("ClientCreateError::UnableToCreateDataSegment")]
     UnableToCreateDataSegment,
-    /// As many clients are connected as the hub may have.
+    /// The hub has its maximum of connected clients.
     #[error("ClientCreateError::ExceedsMaxSupportedClients")]
     ExceedsMaxSupportedClients,
-    /// Never comes.
+    /// Never returned.
     #[error("ClientCreateError::FailedToDeployThreadsafetyPolicy")]
     FailedToDeployThreadsafetyPolicy,
     /// The hub has no number left.
@@ -35,13 +35,13 @@ pub enum ClientCreateError {
 /// Why no server was made. iceoryx2's `ServerCreateError`.
 #[derive(Clone, Copy, Debug, PartialEq, Eq, Hash, Error)]
 pub enum ServerCreateError {
-    /// As many servers are connected as the hub may have.
+    /// The hub has its maximum of connected servers.
     #[error("ServerCreateError::ExceedsMaxSupportedServers")]
     ExceedsMaxSupportedServers,
     /// The worst-case pool of these settings is past `usize::MAX`, or memory was refused.
     #[error("ServerCreateError::UnableToCreateDataSegment")]
     UnableToCreateDataSegment,
-    /// Never comes.
+    /// Never returned.
     #[error("ServerCreateError::FailedToDeployThreadsafetyPolicy")]
     FailedToDeployThreadsafetyPolicy,
     /// The hub has no number left.
@@ -55,7 +55,7 @@ pub enum LoanError {
     /// The port's live messages fill its pool, or memory for a slice longer than the initial length was refused.
     #[error("LoanError::OutOfMemory")]
     OutOfMemory,
-    /// The port, or the active request, has as many loans as it may have.
+    /// The port, or the active request, has its maximum of loans.
     #[error("LoanError::ExceedsMaxLoans")]
     ExceedsMaxLoans,
     /// The slice is longer than the slots, which may not grow.
@@ -63,10 +63,11 @@ pub enum LoanError {
     ExceedsMaxLoanSize,
 }
 
-/// Why two ports are not connected. It never comes, since creation connects. Named after iceoryx2's `ConnectionFailure`.
+/// Why two ports are not connected. Never returned, since creation connects them. Named after iceoryx2's
+/// `ConnectionFailure`.
 #[derive(Clone, Copy, Debug, PartialEq, Eq, Hash, Error)]
 pub enum ConnectionFailure {
-    /// Never comes.
+    /// Never returned.
     #[error("ConnectionFailure::FailedToEstablishConnection")]
     FailedToEstablishConnection,
 }
@@ -77,7 +78,7 @@ pub enum SendError {
     /// The loan before the send was refused.
     #[error("SendError::LoanError({0:?})")]
     LoanError(LoanError),
-    /// Never comes.
+    /// Never returned.
     #[error("SendError::ConnectionError({0:?})")]
     ConnectionError(ConnectionFailure),
     /// A full queue refused the message, which is released.
@@ -88,21 +89,21 @@ pub enum SendError {
 /// Why no request was sent. iceoryx2's `RequestSendError`.
 #[derive(Clone, Copy, Debug, PartialEq, Eq, Hash, Error)]
 pub enum RequestSendError {
-    /// As many pending responses of the client live as may live at one time. The request is released.
+    /// The client has its maximum of pending responses. The request is released.
     #[error("RequestSendError::ExceedsMaxActiveRequests")]
     ExceedsMaxActiveRequests,
-    /// The loan or the sending was refused.
+    /// The loan or the send was refused.
     #[error("RequestSendError::SendError({0:?})")]
     SendError(SendError),
 }
 
-/// Why nothing was received though something is there. Named after iceoryx2's `ReceiveError`.
+/// Why nothing was received although a queue has entries. Named after iceoryx2's `ReceiveError`.
 #[derive(Clone, Copy, Debug, PartialEq, Eq, Hash, Error)]
 pub enum ReceiveError {
-    /// From each queue that has entries as many messages are held as may be borrowed.
+    /// Every queue with entries is at its borrow limit.
     #[error("ReceiveError::ExceedsMaxBorrows")]
     ExceedsMaxBorrows,
-    /// Never comes.
+    /// Never returned.
     #[error("ReceiveError::ConnectionFailure({0:?})")]
     ConnectionFailure(ConnectionFailure),
 }

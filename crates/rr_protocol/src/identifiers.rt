@@ -1,4 +1,4 @@
-//! Who a port is, and which node it belongs to.
+//! The ids of ports and of their node.
 ghost use Rattle.std.specs.Prelude.{◌≡◌};
 
 use std::fmt;
@@ -11,7 +11,7 @@ pub struct UniqueClientId(pub u64);
 #[derive(Clone, Copy, Debug, PartialEq, Eq, PartialOrd, Ord, Hash)]
 pub struct UniqueServerId(pub u64);
 
-/// What the hub's creator named its node. The hub never reads it. It is printed as its number.
+/// The id of the hub's node, chosen by the hub's creator. The hub never reads it. It is printed as its number.
 #[derive(Clone, Copy, Debug, PartialEq, Eq, PartialOrd, Ord, Hash)]
 pub struct UniqueNodeId(pub u64);
 

@@ -1,4 +1,4 @@
-//! What a number of a hub can name.
+//! The kinds of ports and handles.
 
 /// The kind of a port or of a handle. Each is named after its type.
 #[derive(Clone, Copy, Debug, PartialEq, Eq, Hash)]

@@ -1,43 +1,44 @@
-//! How much of everything a hub may hold, and the pools that this calls for.
+//! The limits of a hub, and the pool sizes that follow from them.
 ghost use Rattle.std.specs.Prelude.{◌≡◌, ◌<◌, ◌≤◌, ◌^◌, IfSome, IfNone};
 
 use crate::error::HubCreateError;
 
-/// What a hub may hold. The first six are at least 1.
+/// The limits of a hub. The first six are at least 1.
 ///
-/// The fields have the names of iceoryx2's service settings. The three pool sizes that follow from them aren't in iceoryx2.
+/// The fields have the names of iceoryx2's service settings. The three pool sizes that follow from them aren't in
+/// iceoryx2.
 #[derive(Clone, Copy, Debug, PartialEq, Eq, Hash)]
 pub struct Limits {
-    /// Connected clients.
+    /// Maximum of connected clients.
     pub max_clients: usize,
-    /// Connected servers.
+    /// Maximum of connected servers.
     pub max_servers: usize,
-    /// Requests that a client may have on loan at one time.
+    /// Maximum of requests that a client may have on loan at one time.
     pub max_loaned_requests: usize,
-    /// Living pending responses of a client. Also the entries of a request queue, and the active requests that a server may
-    /// hold from one.
+    /// Maximum of live pending responses of a client. It is also the capacity of a request queue, and the borrow
+    /// limit of a server for one client's requests.
     pub max_active_requests_per_client: usize,
-    /// Entries of a response queue. There is one for each server, client and channel.
+    /// Capacity of a response queue. There is one queue for each server, client and channel.
     pub max_response_buffer_size: usize,
-    /// Responses that may be held from one response queue.
+    /// Borrow limit of responses from one response queue.
     pub max_borrowed_responses_per_pending_response: usize,
     /// Whether a full request queue drops its oldest entry for a new one.
     pub enable_safe_overflow_for_requests: bool,
     /// Whether a full response queue drops its oldest entry for a new one.
     pub enable_safe_overflow_for_responses: bool,
-    /// Whether a server is handed requests whose pending response was released.
+    /// Whether servers receive requests whose pending response was released.
     pub enable_fire_and_forget_requests: bool,
-    /// Servers that left whose responses a client keeps.
+    /// Maximum of servers that left whose responses a client keeps.
     pub client_expired_connection_buffer: usize,
-    /// Clients that left whose requests a server keeps, with fire-and-forget.
+    /// Maximum of clients that left whose requests a server keeps, with fire-and-forget.
     pub server_expired_connection_buffer: usize,
 }
 
 impl Limits {
     ghost use Rattle.rr_protocol.specs.Limits.{has_zero_limit, worst_case_requests, worst_case_responses, hub_refusal};
 
-    /// The smallest limits of a hub: one of everything, queues that refuse, no fire-and-forget, and nothing kept of ports that
-    /// left. Not in iceoryx2, whose limits have defaults.
+    /// The smallest limits of a hub: one of everything, queues that refuse, no fire-and-forget, and nothing kept of
+    /// ports that left. Not in iceoryx2, whose limits have defaults.
     ///
     /// # Examples
     ///
@@ -63,8 +64,9 @@ impl Limits {
         server_expired_connection_buffer: 0,
     };
 
-    /// The limits of iceoryx2's default configuration: 8 clients, 2 servers, 2 requests on loan and 4 active ones for each client, 2
-    /// responses in a queue and 2 held from it, both overflows, fire-and-forget, and 128 ports that left on either side.
+    /// The limits of iceoryx2's default configuration: 8 clients and 2 servers; for each client 2 requests on loan
+    /// and 4 active ones; response queues of 2 entries with a borrow limit of 2; both overflows; fire-and-forget; and
+    /// 128 expired ports on either side.
     ///
     /// # Examples
     ///
@@ -91,7 +93,7 @@ impl Limits {
         server_expired_connection_buffer: 128,
     };
 
-    /// Whether a limit is below its least value.
+    /// Returns whether a limit is below its least value.
     pub fn has_zero_limit(&self) -> bool
         ensures { result ≡ has_zero_limit self.now }
     {
@@ -103,8 +105,8 @@ impl Limits {
             || self.max_borrowed_responses_per_pending_response == 0
     }
 
-    /// The slots of an unreduced client: the most requests of a client that can live at one time. None if that is past
-    /// `usize::MAX`.
+    /// Returns the size of an unreduced client's pool: the most requests of a client that can live at one time.
+    /// Returns `None` on overflow.
     pub fn worst_case_requests(&self) -> Option<usize>
         requires { 0 < self.now.max_active_requests_per_client }
         ensures some { IfSome result (λ slots. slots ≡ worst_case_requests self.now) }
@@ -118,8 +120,8 @@ impl Limits {
         own.checked_add(queued)
     }
 
-    /// The slots of an unreduced server with `loans` loaned responses for each request: the most responses of it that can
-    /// live at one time. None if that is past `usize::MAX`.
+    /// Returns the size of the pool of an unreduced server with `loans` loaned responses for each request: the most
+    /// responses of it that can live at one time. Returns `None` on overflow.
     pub fn worst_case_responses(&self, loans: usize) -> Option<usize>
         requires clients { 0 < self.now.max_clients }
         requires active { 0 < self.now.max_active_requests_per_client }
@@ -139,8 +141,9 @@ impl Limits {
         loaned.checked_add(all)
     }
 
-    /// Why no hub can have these limits, whatever memory there is: `ZeroLimit` before `LimitsTooLarge`. The second looks at
-    /// the pool of a client, and at that of a server with one loan for each request. None if a hub can have them.
+    /// Returns why no hub can have these limits, however much memory there is: `ZeroLimit` before `LimitsTooLarge`.
+    /// The second covers the pool of a client and that of a server with one loan for each request. Returns `None` if
+    /// a hub can have them.
     pub fn refusal(&self) -> Option<HubCreateError>
         ensures { result ≡ hub_refusal self.now }
     {
@@ -197,7 +200,7 @@ impl Limits {
         }
     }
 
-    /// Sets how many entries a response queue has. After iceoryx2's setting of this name.
+    /// Sets the capacity of a response queue. After iceoryx2's setting of this name.
     #[must_use]
     pub fn max_response_buffer_size(self, value: usize) -> Self
         ensures { result ≡ record self { max_response_buffer_size = value } }
@@ -208,7 +211,7 @@ impl Limits {
         }
     }
 
-    /// Sets how many responses may be held from one response queue. After iceoryx2's setting of this name.
+    /// Sets the borrow limit of one response queue. After iceoryx2's setting of this name.
     #[must_use]
     pub fn max_borrowed_responses_per_pending_response(self, value: usize) -> Self
         ensures { result ≡ record self { max_borrowed_responses_per_pending_response = value } }
@@ -230,7 +233,8 @@ impl Limits {
         }
     }
 
-    /// Sets whether a full response queue drops its oldest entry for a new one. After iceoryx2's setting of this name.
+    /// Sets whether a full response queue drops its oldest entry for a new one. After iceoryx2's setting of this
+    /// name.
     #[must_use]
     pub fn enable_safe_overflow_for_responses(self, value: bool) -> Self
         ensures { result ≡ record self { enable_safe_overflow_for_responses = value } }
@@ -241,7 +245,7 @@ impl Limits {
         }
     }
 
-    /// Sets whether servers hear requests that nobody waits for. After iceoryx2's setting of this name.
+    /// Sets whether servers receive requests that nobody waits for. After iceoryx2's setting of this name.
     #[must_use]
     pub fn enable_fire_and_forget_requests(self, value: bool) -> Self
         ensures { result ≡ record self { enable_fire_and_forget_requests = value } }
@@ -252,7 +256,7 @@ impl Limits {
         }
     }
 
-    /// Sets of how many servers that left a client keeps responses. After iceoryx2's setting of this name.
+    /// Sets for how many servers that left a client keeps responses. After iceoryx2's setting of this name.
     #[must_use]
     pub fn client_expired_connection_buffer(self, value: usize) -> Self
         ensures { result ≡ record self { client_expired_connection_buffer = value } }
@@ -263,7 +267,7 @@ impl Limits {
         }
     }
 
-    /// Sets of how many clients that left a server keeps requests. After iceoryx2's setting of this name.
+    /// Sets for how many clients that left a server keeps requests. After iceoryx2's setting of this name.
     #[must_use]
     pub fn server_expired_connection_buffer(self, value: usize) -> Self
         ensures { result ≡ record self { server_expired_connection_buffer = value } }

@@ -2,8 +2,8 @@
 use crate::backpressure::{BackpressureFn, BackpressureInfo};
 use crate::settings::BackpressureAction;
 
-/// A handler that leaves each full queue to the port's strategy, for hubs whose ports have no handler. Not in iceoryx2, whose
-/// handlers are boxed.
+/// A handler that leaves each full queue to the port's strategy, for hubs whose ports have no handler. Not in
+/// iceoryx2, whose handlers are boxed.
 #[derive(Clone, Copy, Debug, PartialEq, Eq, Hash)]
 pub struct NoHandler;
 

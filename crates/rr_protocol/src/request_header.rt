@@ -1,4 +1,4 @@
-//! What travels with each request beside its payload and its user header.
+//! The header that travels with each request, beside its payload and its user header.
 ghost use Rattle.std.specs.Prelude.{◌≡◌};
 
 use crate::identifiers::{UniqueClientId, UniqueNodeId};
@@ -13,28 +13,28 @@ pub struct RequestHeader {
 }
 
 impl RequestHeader {
-    /// The client that loaned the request.
+    /// Returns the client that loaned the request.
     pub fn client_id(&self) -> UniqueClientId
         ensures { result ≡ self.now.client_id }
     {
         self.client_id
     }
 
-    /// How many requests the client had loaned before this one.
+    /// Returns how many requests the client had loaned before this one.
     pub fn request_id(&self) -> u64
         ensures { result ≡ self.now.request_id }
     {
         self.request_id
     }
 
-    /// How many elements the payload was asked to have.
+    /// Returns the loaned length of the payload, in elements.
     pub fn number_of_elements(&self) -> u64
         ensures { result ≡ self.now.number_of_elements }
     {
         self.number_of_elements
     }
 
-    /// The node of the hub.
+    /// Returns the node of the hub.
     pub fn node_id(&self) -> UniqueNodeId
         ensures { result ≡ self.now.node_id }
     {

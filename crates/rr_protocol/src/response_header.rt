@@ -1,4 +1,4 @@
-//! What travels with each response beside its payload and its user header.
+//! The header that travels with each response, beside its payload and its user header.
 ghost use Rattle.std.specs.Prelude.{◌≡◌};
 
 use crate::identifiers::{UniqueNodeId, UniqueServerId};
@@ -13,28 +13,28 @@ pub struct ResponseHeader {
 }
 
 impl ResponseHeader {
-    /// The server that loaned the response.
+    /// Returns the server that loaned the response.
     pub fn server_id(&self) -> UniqueServerId
         ensures { result ≡ self.now.server_id }
     {
         self.server_id
     }
 
-    /// The id that its client gave to the request which it answers.
+    /// Returns the id that the client gave to the request that this response answers.
     pub fn request_id(&self) -> u64
         ensures { result ≡ self.now.request_id }
     {
         self.request_id
     }
 
-    /// How many elements the payload was asked to have.
+    /// Returns the loaned length of the payload, in elements.
     pub fn number_of_elements(&self) -> u64
         ensures { result ≡ self.now.number_of_elements }
     {
         self.number_of_elements
     }
 
-    /// The node of the hub.
+    /// Returns the node of the hub.
     pub fn node_id(&self) -> UniqueNodeId
         ensures { result ≡ self.now.node_id }
     {

@@ -1,20 +1,20 @@
-//! How ports are created, and what they do at full queues.
+//! Settings of ports, and their behaviour at full queues.
 
-/// What a send does at a full queue that may not overflow. iceoryx2's `BackpressureStrategy`.
+/// The action of a send at a full queue that may not overflow. iceoryx2's `BackpressureStrategy`.
 #[derive(Clone, Copy, Debug, PartialEq, Eq, Hash)]
 pub enum BackpressureStrategy {
-    /// The send is refused. Nothing waits inside a send: the caller tries again.
+    /// The send is refused. It never blocks: the caller may retry.
     RetryUntilDelivered,
-    /// The queue is passed over.
+    /// The queue is skipped.
     DiscardData,
 }
 
-/// What a handler answers about such a queue. iceoryx2's `BackpressureAction`.
+/// The answer of a handler about such a queue. iceoryx2's `BackpressureAction`.
 #[derive(Clone, Copy, Debug, PartialEq, Eq, Hash)]
 pub enum BackpressureAction {
     /// The send is refused.
     Retry,
-    /// The queue is passed over.
+    /// The queue is skipped.
     DiscardData,
     /// The send is refused.
     DiscardDataAndFail,
@@ -25,31 +25,31 @@ pub enum BackpressureAction {
 /// Whether a slot may grow for a slice that is longer than the initial length. iceoryx2's `AllocationStrategy`.
 #[derive(Clone, Copy, Debug, PartialEq, Eq, Hash)]
 pub enum AllocationStrategy {
-    /// It may not: such a loan is refused.
+    /// Slots don't grow: the loan of a longer slice is refused.
     Static,
-    /// It may.
+    /// Slots grow.
     BestFit,
-    /// It may.
+    /// Slots grow.
     PowerOfTwo,
 }
 
-/// How a client is created.
+/// The settings that a client is created with.
 #[derive(Clone, Copy, Debug, PartialEq, Eq, Hash)]
 pub struct ClientSettings<K> {
-    /// The elements for which each slot has room from the start.
+    /// How many elements each slot has room for from the start.
     pub initial_max_slice_len: usize,
-    /// What an override made of the worst-case number of slots, if there is one.
+    /// The override's result for the worst-case number of slots, if there is an override.
     pub pool: Option<usize>,
-    /// What its sends do at a full queue.
+    /// The strategy of its sends at a full queue.
     pub strategy: BackpressureStrategy,
     /// Whether slots may grow for longer slices.
     pub allocation_strategy: AllocationStrategy,
-    /// The handler that is asked at a full queue before the strategy, if there is one.
+    /// The handler that decides at a full queue before the strategy applies, if there is one.
     pub handler: Option<K>,
 }
 
-/// What a client is created with where nothing else is said: slots of one element, which do not grow, in a pool of the worst-case size;
-/// its sends pass full queues over, and ask no handler. These are the defaults of iceoryx2's `PortFactoryClient`.
+/// The default settings of a client: slots of one element, which do not grow, in a pool of the worst-case size; sends
+/// skip full queues, and there is no handler. These are the defaults of iceoryx2's `PortFactoryClient`.
 ///
 /// # Examples
 ///
@@ -78,26 +78,26 @@ impl<K> Default for ClientSettings<K> {
     }
 }
 
-/// How a server is created.
+/// The settings that a server is created with.
 #[derive(Clone, Copy, Debug, PartialEq, Eq, Hash)]
 pub struct ServerSettings<K> {
-    /// The elements for which each slot has room from the start.
+    /// How many elements each slot has room for from the start.
     pub initial_max_slice_len: usize,
-    /// What an override made of the worst-case number of slots, if there is one.
+    /// The override's result for the worst-case number of slots, if there is an override.
     pub pool: Option<usize>,
-    /// The responses that may be on loan at one time for each request. 0 counts as 1.
+    /// Maximum of responses on loan at one time for each request. 0 counts as 1.
     pub loans: usize,
-    /// What its sends do at a full queue.
+    /// The strategy of its sends at a full queue.
     pub strategy: BackpressureStrategy,
     /// Whether slots may grow for longer slices.
     pub allocation_strategy: AllocationStrategy,
-    /// The handler that is asked at a full queue before the strategy, if there is one.
+    /// The handler that decides at a full queue before the strategy applies, if there is one.
     pub handler: Option<K>,
 }
 
-/// What a server is created with where nothing else is said: slots of one element, which do not grow, in a pool of the worst-case size,
-/// and one response on loan at a time for each active request; its sends pass full queues over, and ask no handler. Except for the
-/// loans these are the defaults of iceoryx2's `PortFactoryServer`.
+/// The default settings of a server: slots of one element, which do not grow, in a pool of the worst-case size, and
+/// one response on loan at a time for each active request; sends skip full queues, and there is no handler. Except
+/// for the loans these are the defaults of iceoryx2's `PortFactoryServer`.
 impl<K> Default for ServerSettings<K> {
     ghost use Rattle.std.specs.Prelude.{◌≡◌};
     ghost use Rattle.rr_protocol.specs.Settings.{server_defaults};

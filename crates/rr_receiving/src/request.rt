@@ -16,18 +16,17 @@ use rr_protocol::{BackpressureFn, ReceiveError};
 use rr_slots::Body;
 use rr_store::{HandleEntry, HandleId, Stage, Store};
 
-/// Receives the oldest request of some client that a server, whose value lives, has not received yet. It has the next number,
-/// of which one remains.
+/// Receives the oldest request of a client that a server, whose value lives, has not received yet. It has the next
+/// number, of which one remains.
 ///
-/// The server's receives go round the clients: the one after that from which it received last comes first. Requests whose pending
-/// responses were released are dropped on the way, where they are the oldest of their clients, unless the limits have
-/// fire-and-forget requests; a client of which the server has as many requests as it may is left out. Returns `None` if no
-/// client's request waits then. Takes O(senders from which something may wait + requests that it drops), and no memory. After
-/// iceoryx2's `Server::receive`.
+/// Receives are round robin: the client after the one served last comes first. Unless the limits allow
+/// fire-and-forget requests, drops requests at the front of a queue whose pending responses were released. Skips
+/// clients whose requests the server has borrowed up to its limit. Returns `None` if no request is queued then. Takes
+/// O(marked senders + requests that it drops), and no memory. After iceoryx2's `Server::receive`.
 ///
 /// # Errors
 ///
-/// - `ExceedsMaxBorrows` if some request waits, but the server has as many requests of each such client as it may.
+/// - `ExceedsMaxBorrows` if requests are queued, but the server is at its borrow limit for each of their clients.
 #[inline(always)]
 pub fn receive_request<
     QB: Body,
@@ -61,8 +60,9 @@ pub fn receive_request<
     }
 }
 
-/// Returns from which client's sender a server takes its next request. Drops the requests that nobody waits for before that, from
-/// the fronts of the queues that it looks at, where the server may have one more, unless the limits have fire-and-forget requests.
+/// Returns the client's sender from which a server takes its next request. Before that, unless the limits allow
+/// fire-and-forget requests, drops dead requests from the fronts of the queues that it polls and that are below the
+/// borrow limit.
 #[inline(always)]
 fn next_request_sender<
     QB: Body,
@@ -75,8 +75,11 @@ fn next_request_sender<
     requires channel { HaveChannels store.old.clients.senders receiver 0 }
     ensures rest { opened store.new ≡ with_request_senders (opened store.old) store.new.clients.senders }
     ensures kept { store.old.limits.enable_fire_and_forget_requests ≡ true → opened store.new ≡ opened store.old }
-    ensures skimmed { store.old.limits.enable_fire_and_forget_requests ≡ false → IsSkimmedTo store.old.table receiver store.old.limits.max_active_requests_per_client store.old.clients.senders store.new.clients.senders result }
-    ensures next { IsNextSender store.new.clients.senders receiver 0 store.old.limits.max_active_requests_per_client result }
+    ensures skimmed { store.old.limits.enable_fire_and_forget_requests ≡ false
+        → IsSkimmedTo store.old.table receiver store.old.limits.max_active_requests_per_client
+        store.old.clients.senders store.new.clients.senders result }
+    ensures next { IsNextSender store.new.clients.senders receiver 0 store.old.limits.max_active_requests_per_client
+        result }
 {
     if 1 < store.clients.sender_count() {
         return request_sender_in_turn(store, receiver);
@@ -88,8 +91,8 @@ fn next_request_sender<
     store.clients.skim_only(&store.table, receiver, most)
 }
 
-/// Returns from which client's sender a server takes its next request, if its receives go round, and lets the one after it be the
-/// first next time. Looks once if no client's request waits.
+/// Returns the client's sender from which a server takes its next request, if there are several, and advances the
+/// cursor past it. Returns at once if no sender is marked.
 #[inline(always)]
 fn request_sender_in_turn<
     QB: Body,
@@ -103,8 +106,11 @@ fn request_sender_in_turn<
     requires channel { HaveChannels store.old.clients.senders receiver 0 }
     ensures rest { opened store.new ≡ with_request_senders (opened store.old) store.new.clients.senders }
     ensures kept { store.old.limits.enable_fire_and_forget_requests ≡ true → opened store.new ≡ opened store.old }
-    ensures skimmed { store.old.limits.enable_fire_and_forget_requests ≡ false → IsSkimmedTo store.old.table receiver store.old.limits.max_active_requests_per_client store.old.clients.senders store.new.clients.senders result }
-    ensures next { IsNextSender store.new.clients.senders receiver 0 store.old.limits.max_active_requests_per_client result }
+    ensures skimmed { store.old.limits.enable_fire_and_forget_requests ≡ false
+        → IsSkimmedTo store.old.table receiver store.old.limits.max_active_requests_per_client
+        store.old.clients.senders store.new.clients.senders result }
+    ensures next { IsNextSender store.new.clients.senders receiver 0 store.old.limits.max_active_requests_per_client
+        result }
 {
     let Some(first) = first_request_sender(store, receiver) else {
         return Ok(None);
@@ -116,8 +122,8 @@ fn request_sender_in_turn<
     found
 }
 
-/// Returns at which client's sender a server looks first, if its receives go round. The sender from which it took last is noted no
-/// more if nothing waits from it. Returns `None` if no client's request waits.
+/// Returns the client's sender that a server polls first, if there are several. Clears the bit of the sender served
+/// last if its queue is empty. Returns `None` if no sender is marked.
 #[cold]
 fn first_request_sender<
     QB: Body,
@@ -131,7 +137,8 @@ fn first_request_sender<
     requires channel { HaveChannels store.old.clients.senders receiver 0 }
     ensures kept { opened store.new ≡ opened store.old }
     ensures there { IfSome result (λ sender. sender < length store.old.clients.senders) }
-    ensures idle { IfNone result ((sender : ℕ) → sender < length store.old.clients.senders → queue_from store.old.clients.senders receiver 0 sender ≡ []) }
+    ensures idle { IfNone result ((sender : ℕ) → sender < length store.old.clients.senders
+        → queue_from store.old.clients.senders receiver 0 sender ≡ []) }
 {
     if store.clients.is_idle(receiver, 0) {
         return None;
@@ -142,7 +149,7 @@ fn first_request_sender<
     Some(first)
 }
 
-/// Returns from which client's sender a server takes next: from this one, or else from one of those that come after it, in turn.
+/// Returns the client's sender from which a server takes next: this one, or else the next one in round-robin order.
 #[inline(always)]
 fn request_sender_beginning<
     QB: Body,
@@ -161,8 +168,11 @@ fn request_sender_beginning<
     requires channel { HaveChannels store.old.clients.senders receiver 0 }
     ensures rest { opened store.new ≡ with_request_senders (opened store.old) store.new.clients.senders }
     ensures kept { store.old.limits.enable_fire_and_forget_requests ≡ true → opened store.new ≡ opened store.old }
-    ensures skimmed { store.old.limits.enable_fire_and_forget_requests ≡ false → IsSkimmedTo store.old.table receiver store.old.limits.max_active_requests_per_client store.old.clients.senders store.new.clients.senders result }
-    ensures next { IsNextSender store.new.clients.senders receiver 0 store.old.limits.max_active_requests_per_client result }
+    ensures skimmed { store.old.limits.enable_fire_and_forget_requests ≡ false
+        → IsSkimmedTo store.old.table receiver store.old.limits.max_active_requests_per_client
+        store.old.clients.senders store.new.clients.senders result }
+    ensures next { IsNextSender store.new.clients.senders receiver 0 store.old.limits.max_active_requests_per_client
+        result }
 {
     match request_sender_at(store, receiver, first) {
         Some(sender) => Ok(Some(sender)),
@@ -183,8 +193,11 @@ fn request_sender_at<QB: Body, QH: Default + Drop, PB: Body, PH: Default + Drop,
     requires channel { HaveChannels store.old.clients.senders receiver 0 }
     ensures rest { opened store.new ≡ with_request_senders (opened store.old) store.new.clients.senders }
     ensures kept { store.old.limits.enable_fire_and_forget_requests ≡ true → opened store.new ≡ opened store.old }
-    ensures skimmed { store.old.limits.enable_fire_and_forget_requests ≡ false → IsSkimmedTo store.old.table receiver store.old.limits.max_active_requests_per_client store.old.clients.senders store.new.clients.senders (Ok result) }
-    ensures next { IfSome result (λ sender. IsNextSender store.new.clients.senders receiver 0 store.old.limits.max_active_requests_per_client (Ok (Some sender))) }
+    ensures skimmed { store.old.limits.enable_fire_and_forget_requests ≡ false
+        → IsSkimmedTo store.old.table receiver store.old.limits.max_active_requests_per_client
+        store.old.clients.senders store.new.clients.senders (Ok result) }
+    ensures next { IfSome result (λ sender. IsNextSender store.new.clients.senders receiver 0
+        store.old.limits.max_active_requests_per_client (Ok (Some sender))) }
 {
     let most = store.limits.max_active_requests_per_client;
     if store.limits.enable_fire_and_forget_requests {
@@ -193,7 +206,8 @@ fn request_sender_at<QB: Body, QH: Default + Drop, PB: Body, PH: Default + Drop,
     store.clients.skim_at(&store.table, sender, receiver, most)
 }
 
-/// Returns from which client's sender a server takes next: looks from one on, and then, if that isn't the first, at all.
+/// Polls the senders at or after `turn`, then wraps around to the rest. Returns the sender that the server takes its
+/// next request from.
 #[cold]
 fn request_sender_around<
     QB: Body,
@@ -210,8 +224,11 @@ fn request_sender_around<
     requires channel { HaveChannels store.old.clients.senders receiver 0 }
     ensures rest { opened store.new ≡ with_request_senders (opened store.old) store.new.clients.senders }
     ensures kept { store.old.limits.enable_fire_and_forget_requests ≡ true → opened store.new ≡ opened store.old }
-    ensures skimmed { store.old.limits.enable_fire_and_forget_requests ≡ false → IsSkimmedTo store.old.table receiver store.old.limits.max_active_requests_per_client store.old.clients.senders store.new.clients.senders result }
-    ensures next { IsNextSender store.new.clients.senders receiver 0 store.old.limits.max_active_requests_per_client result }
+    ensures skimmed { store.old.limits.enable_fire_and_forget_requests ≡ false
+        → IsSkimmedTo store.old.table receiver store.old.limits.max_active_requests_per_client
+        store.old.clients.senders store.new.clients.senders result }
+    ensures next { IsNextSender store.new.clients.senders receiver 0 store.old.limits.max_active_requests_per_client
+        result }
 {
     if turn == 0 {
         return request_sender_from(store, receiver, 0);
@@ -222,7 +239,8 @@ fn request_sender_around<
     }
 }
 
-/// Returns from which client's sender, of those from one on, a server takes its next request, as `next_request_sender` does.
+/// Polls the senders at or after `from`. Returns the one that the server takes its next request from, as
+/// `next_request_sender` does.
 #[inline(always)]
 fn request_sender_from<
     QB: Body,
@@ -239,8 +257,11 @@ fn request_sender_from<
     requires channel { HaveChannels store.old.clients.senders receiver 0 }
     ensures rest { opened store.new ≡ with_request_senders (opened store.old) store.new.clients.senders }
     ensures kept { store.old.limits.enable_fire_and_forget_requests ≡ true → opened store.new ≡ opened store.old }
-    ensures skimmed { store.old.limits.enable_fire_and_forget_requests ≡ false → IsSkimmedTo store.old.table receiver store.old.limits.max_active_requests_per_client store.old.clients.senders store.new.clients.senders result }
-    ensures next { IsNextFrom from store.new.clients.senders receiver 0 store.old.limits.max_active_requests_per_client result }
+    ensures skimmed { store.old.limits.enable_fire_and_forget_requests ≡ false
+        → IsSkimmedTo store.old.table receiver store.old.limits.max_active_requests_per_client
+        store.old.clients.senders store.new.clients.senders result }
+    ensures next { IsNextFrom from store.new.clients.senders receiver 0
+        store.old.limits.max_active_requests_per_client result }
 {
     let most = store.limits.max_active_requests_per_client;
     if store.limits.enable_fire_and_forget_requests {

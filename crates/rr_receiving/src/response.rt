@@ -16,16 +16,16 @@ use rr_slots::Body;
 use rr_store::{HandleEntry, HandleId, ResponseDetails, Side, Stage, Store};
 use rr_table::Place;
 
-/// Receives the oldest response of some server that the pending response in this place has not received yet. It keeps its
-/// number.
+/// Receives the oldest response of some server that the pending response in this place has not received yet. It keeps
+/// its number.
 ///
-/// The receives of a pending response go round the servers: the one after that from which it received last comes first. Returns
-/// `None` if no server's response waits. Takes O(senders from which something may wait), and no memory. After iceoryx2's
-/// `PendingResponse::receive`.
+/// Receives are round robin: the server after the one served last comes first. Returns `None` if no response is
+/// queued. Takes O(marked senders), and no memory. After iceoryx2's `PendingResponse::receive`.
 ///
 /// # Errors
 ///
-/// - `ExceedsMaxBorrows` if some response waits, but the client has as many from each such server on this channel as it may.
+/// - `ExceedsMaxBorrows` if responses are queued, but the client is at its borrow limit for each of their servers on
+///   this channel.
 #[inline(always)]
 pub fn receive_response_at<
     QB: Body,
@@ -68,7 +68,8 @@ pub fn receive_response_at<
     }
 }
 
-/// Returns from which server's sender a client takes its next response on a channel, of which it may have `most` from each.
+/// Returns from which server's sender a client takes its next response on a channel, of which it may have `most` from
+/// each.
 #[inline(always)]
 fn next_response_sender<B: Body, H: Drop, P: Drop>(
     servers: &Side<B, ResponseDetails, H, P>,
@@ -87,8 +88,8 @@ fn next_response_sender<B: Body, H: Drop, P: Drop>(
     servers.only_sender(receiver, channel, most)
 }
 
-/// Returns from which server's sender a client takes its next response on a channel, if its receives go round, and lets the one after
-/// it be the first next time. Looks once if no server's response waits.
+/// Returns the server's sender from which a client takes its next response on a channel, if there are several, and
+/// advances the cursor past it. Returns at once if no sender is marked.
 #[cold]
 fn response_sender_in_turn<B: Body, H: Drop, P: Drop>(
     servers: &Side<B, ResponseDetails, H, P>,
@@ -113,7 +114,7 @@ fn response_sender_in_turn<B: Body, H: Drop, P: Drop>(
     found
 }
 
-/// Returns from which server's sender a client takes next: from this one, or else from one of those that come after it, in turn.
+/// Returns the server's sender from which a client takes next: this one, or else the next one in round-robin order.
 fn response_sender_around<B: Body, H: Drop, P: Drop>(
     servers: &Side<B, ResponseDetails, H, P>,
     receiver: usize,

@@ -15,8 +15,8 @@ use rr_slots::Body;
 use rr_store::{Stage, Store};
 use rr_table::Place;
 
-/// Releases the active request that stands in this place: its slot is given back, its server has one less from its client,
-/// and may not answer it any more. The server leaves if nothing else of it lives.
+/// Releases the active request in this place: gives its slot back, decrements the server's borrows from the client,
+/// and clears the mark by which the server may answer. The server leaves if nothing else of it lives.
 #[inline(always)]
 pub fn release_active_at<
     QB: Body,
@@ -27,7 +27,8 @@ pub fn release_active_at<
 >(store: &mut Store<QB, QH, PB, PH, K>, number: u64, place: Place)
     requires core { IsCore (opened store.old) }
     requires at { IsAt store.old.table number place }
-    requires kind { IsSomeAnd (handle_at (state_of (opened store.old)) number) (λ handle. is_active_request handle ≡ true) }
+    requires kind { IsSomeAnd (handle_at (state_of (opened store.old)) number)
+        (λ handle. is_active_request handle ≡ true) }
     ensures core { IsCore (opened store.new) }
     ensures view { state_of (opened store.new) ≡ after_release (state_of (opened store.old)) number }
 {
@@ -35,8 +36,8 @@ pub fn release_active_at<
     leave_server_of_sender_if_unused(store, sender);
 }
 
-/// Takes the active request out of its place, its server's mark from the request's slot, and the slot from what the server
-/// has. Returns the server's sender.
+/// Takes the active request out of its place, clears its server's mark on the request's slot, and ends the server's
+/// borrow of the slot. Returns the server's sender.
 #[inline(always)]
 fn end_active<QB: Body, QH: Default + Drop, PB: Body, PH: Default + Drop, K: BackpressureFn>(
     store: &mut Store<QB, QH, PB, PH, K>,
@@ -45,10 +46,12 @@ fn end_active<QB: Body, QH: Default + Drop, PB: Body, PH: Default + Drop, K: Bac
 ) -> usize
     requires core { IsCore (opened store.old) }
     requires at { IsAt store.old.table number place }
-    requires kind { IsSomeAnd (handle_at (state_of (opened store.old)) number) (λ handle. is_active_request handle ≡ true) }
+    requires kind { IsSomeAnd (handle_at (state_of (opened store.old)) number)
+        (λ handle. is_active_request handle ≡ true) }
     ensures sound { IsSoundStore (opened store.new) empty_hand }
     ensures port { HasPort (λ s. s.sender) (opened store.new).servers result }
-    ensures gone { IsHandleGone (state_of (opened store.old)) number (sender_of result (opened store.new).server_senders).owner (state_of (opened store.new)) }
+    ensures gone { IsHandleGone (state_of (opened store.old)) number
+        (sender_of result (opened store.new).server_senders).owner (state_of (opened store.new)) }
 {
     let entry = store.table.take_at(number, place);
     let index = store.servers.index_of(server(entry.stage));

@@ -16,7 +16,7 @@ use rr_slots::Body;
 use rr_store::{Stage, Store};
 use rr_table::Place;
 
-/// Releases the handle that stands in this place.
+/// Releases the handle in this place.
 #[inline(always)]
 pub fn release_at<QB: Body, QH: Default + Drop, PB: Body, PH: Default + Drop, K: BackpressureFn>(
     store: &mut Store<QB, QH, PB, PH, K>,

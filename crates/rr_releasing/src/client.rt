@@ -30,7 +30,7 @@ pub fn release_client<
     leave_client_if_unused(store, index);
 }
 
-/// Notes that the value of a client is gone, and returns where among the clients it stands.
+/// Records that the value of a client was released, and returns the client's index.
 fn end_client_value<QB: Body, QH: Default + Drop, PB: Body, PH: Default + Drop, K: BackpressureFn>(
     store: &mut Store<QB, QH, PB, PH, K>,
     client: u64,

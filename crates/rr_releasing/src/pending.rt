@@ -16,8 +16,8 @@ use rr_slots::Body;
 use rr_store::Store;
 use rr_table::Place;
 
-/// Releases the pending response that stands in this place: its slot is given back, its client has one less, the responses on
-/// its channel that were not received are dropped, and the client leaves if nothing else of it lives.
+/// Releases the pending response in this place: gives its slot back, decrements its client's pending responses, and
+/// drops the responses queued on its channel. The client leaves if nothing else of it lives.
 #[inline(always)]
 pub fn release_pending_at<
     QB: Body,
@@ -28,7 +28,8 @@ pub fn release_pending_at<
 >(store: &mut Store<QB, QH, PB, PH, K>, number: u64, place: Place)
     requires core { IsCore (opened store.old) }
     requires at { IsAt store.old.table number place }
-    requires kind { IsSomeAnd (handle_at (state_of (opened store.old)) number) (λ handle. is_pending_response handle ≡ true) }
+    requires kind { IsSomeAnd (handle_at (state_of (opened store.old)) number)
+        (λ handle. is_pending_response handle ≡ true) }
     ensures core { IsCore (opened store.new) }
     ensures view { state_of (opened store.new) ≡ after_release (state_of (opened store.old)) number }
 {
@@ -36,8 +37,8 @@ pub fn release_pending_at<
     leave_client_of_sender_if_unused(store, sender);
 }
 
-/// Takes the pending response out of its place, counts one less for its client, drops the responses on its channel, and gives
-/// its slot back. Returns the client's sender.
+/// Takes the pending response out of its place, decrements its client's pending responses, drops the responses on its
+/// channel, and gives its slot back. Returns the client's sender.
 #[inline(always)]
 fn end_pending<QB: Body, QH: Default + Drop, PB: Body, PH: Default + Drop, K: BackpressureFn>(
     store: &mut Store<QB, QH, PB, PH, K>,
@@ -46,10 +47,12 @@ fn end_pending<QB: Body, QH: Default + Drop, PB: Body, PH: Default + Drop, K: Ba
 ) -> usize
     requires core { IsCore (opened store.old) }
     requires at { IsAt store.old.table number place }
-    requires kind { IsSomeAnd (handle_at (state_of (opened store.old)) number) (λ handle. is_pending_response handle ≡ true) }
+    requires kind { IsSomeAnd (handle_at (state_of (opened store.old)) number)
+        (λ handle. is_pending_response handle ≡ true) }
     ensures sound { IsSoundStore (opened store.new) empty_hand }
     ensures port { HasPort (λ c. c.sender) (opened store.new).clients result }
-    ensures gone { IsHandleGone (state_of (opened store.old)) number (sender_of result (opened store.new).client_senders).owner (state_of (opened store.new)) }
+    ensures gone { IsHandleGone (state_of (opened store.old)) number
+        (sender_of result (opened store.new).client_senders).owner (state_of (opened store.new)) }
 {
     let entry = store.table.take_at(number, place);
     let receiver = store.clients.end_pending(entry.sender);

@@ -17,8 +17,8 @@ use rr_slots::Body;
 use rr_store::Store;
 use rr_table::Place;
 
-/// Releases the received response that stands in this place: its slot is given back, its client has one less from its
-/// channel, and leaves if nothing else of it lives.
+/// Releases the received response in this place: gives its slot back, and decrements the client's borrows from the
+/// channel. The client leaves if nothing else of it lives.
 #[inline(always)]
 pub fn release_received_at<
     QB: Body,
@@ -29,7 +29,8 @@ pub fn release_received_at<
 >(store: &mut Store<QB, QH, PB, PH, K>, number: u64, place: Place)
     requires core { IsCore (opened store.old) }
     requires at { IsAt store.old.table number place }
-    requires kind { IsSomeAnd (handle_at (state_of (opened store.old)) number) (λ handle. is_received_response handle ≡ true) }
+    requires kind { IsSomeAnd (handle_at (state_of (opened store.old)) number)
+        (λ handle. is_received_response handle ≡ true) }
     ensures core { IsCore (opened store.new) }
     ensures view { state_of (opened store.new) ≡ after_release (state_of (opened store.old)) number }
 {
@@ -37,7 +38,7 @@ pub fn release_received_at<
     leave_client_of_sender_if_unused(store, sender);
 }
 
-/// Takes the received response out of its place, gives its slot back, and counts one less that its client has from its
+/// Takes the received response out of its place, gives its slot back, and decrements its client's borrows from the
 /// channel. Returns the client's sender.
 #[inline(always)]
 fn end_received<QB: Body, QH: Default + Drop, PB: Body, PH: Default + Drop, K: BackpressureFn>(
@@ -47,10 +48,12 @@ fn end_received<QB: Body, QH: Default + Drop, PB: Body, PH: Default + Drop, K: B
 ) -> usize
     requires core { IsCore (opened store.old) }
     requires at { IsAt store.old.table number place }
-    requires kind { IsSomeAnd (handle_at (state_of (opened store.old)) number) (λ handle. is_received_response handle ≡ true) }
+    requires kind { IsSomeAnd (handle_at (state_of (opened store.old)) number)
+        (λ handle. is_received_response handle ≡ true) }
     ensures sound { IsSoundStore (opened store.new) empty_hand }
     ensures port { HasPort (λ c. c.sender) (opened store.new).clients result }
-    ensures gone { IsHandleGone (state_of (opened store.old)) number (sender_of result (opened store.new).client_senders).owner (state_of (opened store.new)) }
+    ensures gone { IsHandleGone (state_of (opened store.old)) number
+        (sender_of result (opened store.new).client_senders).owner (state_of (opened store.new)) }
 {
     let entry = store.table.take_at(number, place);
     let details = store.servers.details(entry.sender, entry.slot);
@@ -61,7 +64,7 @@ fn end_received<QB: Body, QH: Default + Drop, PB: Body, PH: Default + Drop, K: B
     details.client_sender
 }
 
-/// Releases the received response that stands in this place, as `release_received_at` does, and returns what it has.
+/// Releases the received response in this place, as `release_received_at` does, and returns its element.
 #[inline(always)]
 pub fn take_received_at<
     QB: Body,
@@ -72,18 +75,22 @@ pub fn take_received_at<
 >(store: &mut Store<QB, QH, Option<T>, PH, K>, number: u64, place: Place) -> Option<T>
     requires core { IsCore (opened store.old) }
     requires at { IsAt store.old.table number place }
-    requires kind { IsSomeAnd (handle_at (state_of (opened store.old)) number) (λ handle. is_received_response handle ≡ true) }
+    requires kind { IsSomeAnd (handle_at (state_of (opened store.old)) number)
+        (λ handle. is_received_response handle ≡ true) }
     ensures core { IsCore (opened store.new) }
     ensures view { state_of (opened store.new) ≡ after_release (state_of (opened store.old)) number }
-    ensures elements { IsSomeAnd (option_and_then response_in (handle_at (state_of (opened store.old)) number)) (λ m. option_elements result ≡ m.content.elements) }
-    ensures asked { IsSomeAnd (option_and_then response_in (handle_at (state_of (opened store.old)) number)) (λ m. 1 ≡ m.content.asked_len) }
+    ensures elements { IsSomeAnd (option_and_then response_in (handle_at (state_of (opened store.old)) number))
+        (λ m. option_elements result ≡ m.content.elements) }
+    ensures asked { IsSomeAnd (option_and_then response_in (handle_at (state_of (opened store.old)) number))
+        (λ m. 1 ≡ m.content.asked_len) }
 {
     let (sender, element) = end_taken(store, number, place);
     leave_client_of_sender_if_unused(store, sender);
     element
 }
 
-/// Ends the received response in its place, as `end_received` does. Returns the client's sender, and what the response has.
+/// Ends the received response in its place, as `end_received` does. Returns the client's sender, and the response's
+/// element.
 #[inline(always)]
 fn end_taken<QB: Body, QH: Default + Drop, T: Drop, PH: Default + Drop, K: BackpressureFn>(
     store: &mut Store<QB, QH, Option<T>, PH, K>,
@@ -92,17 +99,21 @@ fn end_taken<QB: Body, QH: Default + Drop, T: Drop, PH: Default + Drop, K: Backp
 ) -> (usize, Option<T>)
     requires core { IsCore (opened store.old) }
     requires at { IsAt store.old.table number place }
-    requires kind { IsSomeAnd (handle_at (state_of (opened store.old)) number) (λ handle. is_received_response handle ≡ true) }
+    requires kind { IsSomeAnd (handle_at (state_of (opened store.old)) number)
+        (λ handle. is_received_response handle ≡ true) }
     ensures sound { IsSoundStore (opened store.new) empty_hand }
     ensures port { HasPort (λ c. c.sender) (opened store.new).clients result.0 }
-    ensures gone { IsHandleGone (state_of (opened store.old)) number (sender_of result.0 (opened store.new).client_senders).owner (state_of (opened store.new)) }
-    ensures elements { IsSomeAnd (option_and_then response_in (handle_at (state_of (opened store.old)) number)) (λ m. option_elements result.1 ≡ m.content.elements) }
-    ensures asked { IsSomeAnd (option_and_then response_in (handle_at (state_of (opened store.old)) number)) (λ m. 1 ≡ m.content.asked_len) }
+    ensures gone { IsHandleGone (state_of (opened store.old)) number
+        (sender_of result.0 (opened store.new).client_senders).owner (state_of (opened store.new)) }
+    ensures elements { IsSomeAnd (option_and_then response_in (handle_at (state_of (opened store.old)) number))
+        (λ m. option_elements result.1 ≡ m.content.elements) }
+    ensures asked { IsSomeAnd (option_and_then response_in (handle_at (state_of (opened store.old)) number))
+        (λ m. 1 ≡ m.content.asked_len) }
 {
     let entry = store.table.take_at(number, place);
     let details = store.servers.details(entry.sender, entry.slot);
     let receiver = store.clients.receiver_of(details.client_sender);
-    // What it returns isn't read: its clause says that one element is asked for, as of every such body.
+    // Only its clause is used: the body was loaned for one element, as every body of this family.
     let body = store.servers.body(entry.sender, entry.slot);
     let _ = body;
     let element = store

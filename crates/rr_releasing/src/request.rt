@@ -15,8 +15,8 @@ use rr_slots::Body;
 use rr_store::Store;
 use rr_table::Place;
 
-/// Releases the request on loan that stands in this place: its slot is given back, its client has one less, and leaves if
-/// nothing else of it lives.
+/// Releases the loaned request in this place: gives its slot back, and decrements its client's loans. The client
+/// leaves if nothing else of it lives.
 #[inline(always)]
 pub fn release_request_at<
     QB: Body,
@@ -27,7 +27,8 @@ pub fn release_request_at<
 >(store: &mut Store<QB, QH, PB, PH, K>, number: u64, place: Place)
     requires core { IsCore (opened store.old) }
     requires at { IsAt store.old.table number place }
-    requires kind { IsSomeAnd (handle_at (state_of (opened store.old)) number) (λ handle. is_loaned_request handle ≡ true) }
+    requires kind { IsSomeAnd (handle_at (state_of (opened store.old)) number)
+        (λ handle. is_loaned_request handle ≡ true) }
     ensures core { IsCore (opened store.new) }
     ensures view { state_of (opened store.new) ≡ after_release (state_of (opened store.old)) number }
 {
@@ -35,8 +36,8 @@ pub fn release_request_at<
     leave_client_of_sender_if_unused(store, sender);
 }
 
-/// Takes the request on loan out of its place, gives its slot back, and counts one less for its client. Returns the client's
-/// sender.
+/// Takes the loaned request out of its place, gives its slot back, and decrements its client's loans. Returns the
+/// client's sender.
 #[inline(always)]
 fn end_request<QB: Body, QH: Default + Drop, PB: Body, PH: Default + Drop, K: BackpressureFn>(
     store: &mut Store<QB, QH, PB, PH, K>,
@@ -45,10 +46,12 @@ fn end_request<QB: Body, QH: Default + Drop, PB: Body, PH: Default + Drop, K: Ba
 ) -> usize
     requires core { IsCore (opened store.old) }
     requires at { IsAt store.old.table number place }
-    requires kind { IsSomeAnd (handle_at (state_of (opened store.old)) number) (λ handle. is_loaned_request handle ≡ true) }
+    requires kind { IsSomeAnd (handle_at (state_of (opened store.old)) number)
+        (λ handle. is_loaned_request handle ≡ true) }
     ensures sound { IsSoundStore (opened store.new) empty_hand }
     ensures port { HasPort (λ c. c.sender) (opened store.new).clients result }
-    ensures gone { IsHandleGone (state_of (opened store.old)) number (sender_of result (opened store.new).client_senders).owner (state_of (opened store.new)) }
+    ensures gone { IsHandleGone (state_of (opened store.old)) number
+        (sender_of result (opened store.new).client_senders).owner (state_of (opened store.new)) }
 {
     let entry = store.table.take_at(number, place);
     store.clients.give_back(entry.sender, entry.slot);

@@ -15,8 +15,8 @@ use rr_slots::Body;
 use rr_store::Store;
 use rr_table::Place;
 
-/// Releases the response on loan that stands in this place: its slot is given back, its server has one less on loan, and so
-/// has its active request, if that is not released yet. The server leaves if nothing else of it lives.
+/// Releases the loaned response in this place: gives its slot back, and decrements the loans of its server and of its
+/// active request, if that is not released yet. The server leaves if nothing else of it lives.
 #[inline(always)]
 pub fn release_response_loan_at<
     QB: Body,
@@ -27,7 +27,8 @@ pub fn release_response_loan_at<
 >(store: &mut Store<QB, QH, PB, PH, K>, number: u64, place: Place)
     requires core { IsCore (opened store.old) }
     requires at { IsAt store.old.table number place }
-    requires kind { IsSomeAnd (handle_at (state_of (opened store.old)) number) (λ handle. is_loaned_response handle ≡ true) }
+    requires kind { IsSomeAnd (handle_at (state_of (opened store.old)) number)
+        (λ handle. is_loaned_response handle ≡ true) }
     ensures core { IsCore (opened store.new) }
     ensures view { state_of (opened store.new) ≡ after_release (state_of (opened store.old)) number }
 {
@@ -35,8 +36,8 @@ pub fn release_response_loan_at<
     leave_server_of_sender_if_unused(store, sender);
 }
 
-/// Takes the response on loan out of its place, gives its slot back, and counts one less for its server and for its active
-/// request, if that is not released yet. Returns the server's sender.
+/// Takes the loaned response out of its place, gives its slot back, and decrements the loans of its server and of its
+/// active request, if that is not released yet. Returns the server's sender.
 #[inline(always)]
 fn end_response<QB: Body, QH: Default + Drop, PB: Body, PH: Default + Drop, K: BackpressureFn>(
     store: &mut Store<QB, QH, PB, PH, K>,
@@ -45,10 +46,12 @@ fn end_response<QB: Body, QH: Default + Drop, PB: Body, PH: Default + Drop, K: B
 ) -> usize
     requires core { IsCore (opened store.old) }
     requires at { IsAt store.old.table number place }
-    requires kind { IsSomeAnd (handle_at (state_of (opened store.old)) number) (λ handle. is_loaned_response handle ≡ true) }
+    requires kind { IsSomeAnd (handle_at (state_of (opened store.old)) number)
+        (λ handle. is_loaned_response handle ≡ true) }
     ensures sound { IsSoundStore (opened store.new) empty_hand }
     ensures port { HasPort (λ s. s.sender) (opened store.new).servers result }
-    ensures gone { IsHandleGone (state_of (opened store.old)) number (sender_of result (opened store.new).server_senders).owner (state_of (opened store.new)) }
+    ensures gone { IsHandleGone (state_of (opened store.old)) number
+        (sender_of result (opened store.new).server_senders).owner (state_of (opened store.new)) }
 {
     let entry = store.table.take_at(number, place);
     let details = store.servers.details(entry.sender, entry.slot);

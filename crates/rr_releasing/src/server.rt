@@ -30,7 +30,7 @@ pub fn release_server<
     leave_server_if_unused(store, index);
 }
 
-/// Notes that the value of a server is gone, and returns where among the servers it stands.
+/// Records that the value of a server was released, and returns the server's index.
 fn end_server_value<QB: Body, QH: Default + Drop, PB: Body, PH: Default + Drop, K: BackpressureFn>(
     store: &mut Store<QB, QH, PB, PH, K>,
     server: u64,

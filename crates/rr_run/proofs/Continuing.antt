@@ -6,12 +6,12 @@ use Rattle.rr_protocol.specs.declared.settings.BackpressureAction.{BackpressureA
 use Rattle.rr_protocol.specs.declared.limits.Limits.{Limits}
 use Rattle.rr_protocol.specs.Limits.{hub_refusal}
 use Rattle.rr_protocol.specs.State.{State, empty_hub}
-use Rattle.rr_commands.specs.declared.command.Command.{Command}
-use Rattle.rr_commands.specs.declared.reply.Reply.{Reply}
-use Rattle.rr_commands.specs.Run.{Run, RunsAppending}
-use Rattle.rr_commands.specs.Continuing.{LeadsTo, GoesOn}
-use Rattle.rr_commands.proofs.RunLaws.{run_then_run}
-use Rattle.rr_commands.specs.AnswerRule.{Event}
+use Rattle.rr_protocol.specs.declared.command.Command.{Command}
+use Rattle.rr_protocol.specs.declared.reply.Reply.{Reply}
+use Rattle.rr_protocol.specs.Run.{Run, RunsAppending}
+use Rattle.rr_protocol.specs.Continuing.{LeadsTo, GoesOn}
+use Rattle.rr_protocol.proofs.RunLaws.{run_then_run}
+use Rattle.rr_protocol.specs.AnswerRule.{Event}
 use Rattle.rr_laws.specs.Bound.{BoundsRequests, BoundsResponses}
 use Rattle.rr_laws.specs.Whole.{NeverRunsDry}
 use Rattle.rr_laws.proofs.AnswerRuleHolds.{keeps_answer_rule}

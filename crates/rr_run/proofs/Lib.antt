@@ -3,3 +3,11 @@ pub mod Continuing
 pub mod Pools
 pub mod PoolSteps
 pub mod PoolShows
+pub mod Copies
+pub mod Defaults
+pub mod Memory
+pub mod Handles
+pub mod HandleSteps
+pub mod Knowing
+pub mod Added
+pub mod Spots

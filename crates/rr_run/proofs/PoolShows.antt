@@ -4,16 +4,16 @@ use Rattle.std.specs.Prelude.{◌⊎◌, slice_get, nat_le}
 use Rattle.std.specs.List.{AllByRecursion}
 use Rattle.std.proofs.Math.Nat.{mul_assoc, two-mul}
 use Rattle.std.proofs.lemmas.Bool.{cases_lt, le-leb}
-use Rattle.rr_map_laws.proofs.Members.{any_there}
+use Rattle.rr_table.proofs.Members.{any_there}
 use Rattle.rr_slots.specs.declared.family.Family.TheVariants.{Typed}
 use Rattle.rr_protocol.specs.declared.limits.Limits.{Limits}
 use Rattle.rr_protocol.specs.declared.no_handler.NoHandler.{NoHandler}
 use Rattle.rr_protocol.specs.Creation.{pool_size_of}
 use Rattle.rr_protocol.specs.Limits.{hub_refusal, worst_case_requests}
-use Rattle.rr_commands.specs.declared.command.Command.{Command}
-use Rattle.rr_commands.specs.declared.reply.Reply.{Reply}
-use Rattle.rr_commands.specs.AnswerRule.{Event}
-use Rattle.rr_commands.specs.Run.{Run}
+use Rattle.rr_protocol.specs.declared.command.Command.{Command}
+use Rattle.rr_protocol.specs.declared.reply.Reply.{Reply}
+use Rattle.rr_protocol.specs.AnswerRule.{Event}
+use Rattle.rr_protocol.specs.Run.{Run}
 use Rattle.rr_protocol.specs.State.{empty_hub}
 use Rattle.rr_laws.specs.Filling.{only_client}
 use Rattle.rr_laws.specs.Unreduced.{asked_in}
@@ -22,7 +22,7 @@ use Rattle.rr_laws.proofs.Tests.{positive}
 use Rattle.rr_laws.proofs.WholePools.{never_runs_dry}
 use Rattle.rr_run.specs.declared.least.filling.Filling.{Filling}
 use Rattle.rr_run.specs.Filled.{IsFilled, IsFilledUp, IsNoted, IsSameHub}
-use Rattle.rr_runner.specs.Numbers.{IsZero, follow_strategy}
+use Rattle.rr_run.specs.Numbers.{IsZero, follow_strategy}
 use Rattle.rr_run.specs.Least.{reduced_client, WantsMemory, ShowsPool}
 use Rattle.rr_run.proofs.Pools.{run_length}
 

@@ -4,7 +4,7 @@ use Rattle.std.specs.Prelude.{◌^◌, Result, Ok, Err, OnOk}
 use Rattle.std.specs.List.{AllByRecursion, list_any}
 use Rattle.std.proofs.lemmas.List.{length-append}
 use Rattle.std.proofs.lemmas.List.Folds.{list_any-append}
-use Rattle.rr_map_laws.proofs.ListFacts.{or_true}
+use Rattle.rr_table.proofs.ListFacts.{or_true}
 use Rattle.rr_protocol.specs.declared.error.LoanError.{LoanError}
 use Rattle.rr_protocol.specs.declared.error.RequestSendError.{RequestSendError}
 use Rattle.rr_protocol.specs.declared.error.SendError.{SendError}
@@ -16,10 +16,10 @@ use Rattle.rr_protocol.specs.Keys.{request_key}
 use Rattle.rr_protocol.specs.Limits.{worst_case_requests}
 use Rattle.rr_protocol.specs.Messages.{RequestMessage}
 use Rattle.rr_protocol.specs.State.{empty_hub}
-use Rattle.rr_commands.specs.declared.command.Command.{Command}
-use Rattle.rr_commands.specs.declared.reply.Reply.{Reply}
-use Rattle.rr_commands.specs.Run.{Run}
-use Rattle.rr_commands.specs.Step.{Step}
+use Rattle.rr_protocol.specs.declared.command.Command.{Command}
+use Rattle.rr_protocol.specs.declared.reply.Reply.{Reply}
+use Rattle.rr_protocol.specs.Run.{Run}
+use Rattle.rr_protocol.specs.Step.{Step}
 use Rattle.rr_slots.specs.declared.family.Family.TheVariants.{Typed}
 use Rattle.rr_laws.specs.Filling.{only_client, is_request, IsHolding, IsServed, IsSent}
 use Rattle.rr_laws.specs.Roles.{question_of}
@@ -30,7 +30,7 @@ use Rattle.rr_laws.proofs.filling.Steps.{copy_sent, pending_released, request_lo
 use Rattle.rr_run.specs.declared.least.filling.Filling.{Filling}
 use Rattle.rr_run.specs.declared.least.outcome.Outcome.{Outcome}
 use Rattle.rr_run.specs.Filled.{outcome_of, Does, HasAsked, HasGrown, HasQueued, IsFilled, IsNoted, IsSameHub, IsSpare, IsUnused}
-use Rattle.rr_runner.specs.Numbers.{IsZero, follow_strategy}
+use Rattle.rr_run.specs.Numbers.{IsZero, follow_strategy}
 use Rattle.rr_run.specs.Least.{reduced_client}
 
 -- the replies that outcomes stand for

@@ -2,24 +2,24 @@
 use Rattle.std.proofs.Common.{◌≡◌, ℕ, true, false, List, [], ◌∷◌, ◌++◌, length, Some, refl, sym, ap, ◌∙◌, subst, arith}
 use Rattle.std.specs.Prelude.{slice_get, Result, Ok, Err, IfOk, OnOk}
 use Rattle.std.specs.List.{AllByRecursion}
-use Rattle.rr_map_laws.proofs.ListFacts.{all_append}
+use Rattle.rr_table.proofs.ListFacts.{all_append}
 use Rattle.rr_slots.specs.declared.family.Family.TheVariants.{Typed}
 use Rattle.rr_protocol.specs.declared.error.LoanError.{LoanError}
 use Rattle.rr_protocol.specs.declared.error.RequestSendError.{RequestSendError}
 use Rattle.rr_protocol.specs.declared.error.SendError.{SendError}
 use Rattle.rr_protocol.specs.declared.no_handler.NoHandler.{NoHandler}
 use Rattle.rr_protocol.specs.State.{State, empty_hub}
-use Rattle.rr_commands.specs.declared.command.Command.{Command}
-use Rattle.rr_commands.specs.declared.reply.Reply.{Reply}
-use Rattle.rr_commands.specs.Run.{Run}
-use Rattle.rr_commands.proofs.RunLaws.{run_then_step}
+use Rattle.rr_protocol.specs.declared.command.Command.{Command}
+use Rattle.rr_protocol.specs.declared.reply.Reply.{Reply}
+use Rattle.rr_protocol.specs.Run.{Run}
+use Rattle.rr_protocol.proofs.RunLaws.{run_then_step}
 use Rattle.rr_laws.specs.Filling.{only_client}
 use Rattle.rr_laws.specs.Unreduced.{asked_in, is_out_of_memory}
 use Rattle.rr_run.specs.declared.least.filling.Filling.{Filling}
 use Rattle.rr_run.specs.declared.least.outcome.Outcome.{Outcome}
 use Rattle.rr_run.specs.declared.least.stop.Stop.{Stop}
 use Rattle.rr_run.specs.Filled.{outcome_of, Does, IsLater, IsNoted, IsSameHub}
-use Rattle.rr_runner.specs.Numbers.{IsZero, follow_strategy}
+use Rattle.rr_run.specs.Numbers.{IsZero, follow_strategy}
 use Rattle.rr_run.specs.Least.{reduced_client, creates_client, WantsMemory}
 
 -- a reply for each command

@@ -4,11 +4,11 @@ use Rattle.std.proofs.lemmas.List.{append_assoc, append-nil, take_all, take_more
 use Rattle.rr_slots.specs.declared.family.Family.{Family}
 use Rattle.rr_protocol.specs.declared.settings.BackpressureAction.{BackpressureAction}
 use Rattle.rr_protocol.specs.State.{State}
-use Rattle.rr_commands.specs.declared.command.Command.{Command}
-use Rattle.rr_commands.specs.declared.reply.Reply.{Reply}
-use Rattle.rr_commands.specs.Run.{Run}
-use Rattle.rr_commands.specs.Step.{Step}
-use Rattle.rr_commands.proofs.RunLaws.{run_then_step}
+use Rattle.rr_protocol.specs.declared.command.Command.{Command}
+use Rattle.rr_protocol.specs.declared.reply.Reply.{Reply}
+use Rattle.rr_protocol.specs.Run.{Run}
+use Rattle.rr_protocol.specs.Step.{Step}
+use Rattle.rr_protocol.proofs.RunLaws.{run_then_step}
 
 module _ {T H K : Type 0} (action : K → ℕ → ℕ → BackpressureAction) (IsDefaultElement : T → Type 0) (IsDefaultHeader : H → Type 0)
     (family : Family) where

@@ -1,4 +1,4 @@
--- What a list of commands and their replies shows of the least pool of a client.
+-- What a list of commands and their replies proves of the least pool of a client.
 use Rattle.std.specs.Prelude.{◌≡◌, ◌≢◌, ◌⊎◌, ◌<◌, ◌↔◌, ℕ, Bool, true, false, List, ◌∷◌, Some, None, slice_get}
 use Rattle.std.specs.List.{AllByRecursion}
 use Rattle.rr_slots.specs.declared.family.Family.TheVariants.{Typed}
@@ -8,15 +8,16 @@ use Rattle.rr_protocol.specs.declared.settings.BackpressureStrategy.{Backpressur
 use Rattle.rr_protocol.specs.declared.settings.ClientSettings.{ClientSettings}
 use Rattle.rr_protocol.specs.Limits.{hub_refusal, worst_case_requests}
 use Rattle.rr_protocol.specs.State.{State, empty_hub}
-use Rattle.rr_commands.specs.declared.command.Command.{Command}
-use Rattle.rr_commands.specs.declared.reply.Reply.{Reply}
-use Rattle.rr_commands.specs.Run.{Run}
-use Rattle.rr_runner.specs.Numbers.{IsZero, follow_strategy}
+use Rattle.rr_protocol.specs.declared.command.Command.{Command}
+use Rattle.rr_protocol.specs.declared.reply.Reply.{Reply}
+use Rattle.rr_protocol.specs.Run.{Run}
+use Rattle.rr_run.specs.Numbers.{IsZero, follow_strategy}
 use Rattle.rr_laws.specs.Filling.{only_client}
 use Rattle.rr_laws.specs.Unreduced.{asked_in, is_out_of_memory}
 
 module _ {K : Type 0} where
-  -- the client's settings: full queues are passed over, slots don't grow, no handler, and this answer of the override
+  -- the client's settings: full queues are skipped, slots don't grow, there is no handler, and the override returns
+  -- this
   abbrev pub reduced_client : ℕ → ClientSettings K
   reduced_client pool = record {
     strategy = BackpressureStrategy.DiscardData;
@@ -42,7 +43,8 @@ module _ {K : Type 0} where
   -- a loan of that client is answered with want of memory
   abbrev pub WantsMemory : List (Command ℕ ℕ K) → List (Reply ℕ ℕ) → Type 0
   WantsMemory commands replies =
-      (i len : ℕ) × (command : Command ℕ ℕ K) × (reply : Reply ℕ ℕ) × (slice_get commands i ≡ Some command) × (slice_get replies i ≡ Some reply)
+      (i len : ℕ) × (command : Command ℕ ℕ K) × (reply : Reply ℕ ℕ) × (slice_get commands i ≡ Some command)
+      × (slice_get replies i ≡ Some reply)
       × (asked_in command ≡ Some (only_client, len)) × (is_out_of_memory reply ≡ true)
 
   -- the typed machine with these limits may answer the commands so
@@ -50,8 +52,10 @@ module _ {K : Type 0} where
   IsTypedRun limits commands replies =
       (s : State ℕ ℕ ℕ ℕ K) × Run follow_strategy IsZero IsZero Typed (empty_hub limits 0) commands replies s
 
-  -- commands and replies are such a run with one client, whose override answers this, and a loan of it is answered with want of memory exactly if that is below the worst case
-  pub record ShowsPool (limits : Limits) (pool : ℕ) (commands : List (Command ℕ ℕ K)) (replies : List (Reply ℕ ℕ)) : Type 0 where
+  -- the commands and replies are such a run with one client, whose override returns this size, and a loan of the
+  -- client is answered with want of memory exactly if that size is below the worst case
+  pub record ShowsPool (limits : Limits) (pool : ℕ) (commands : List (Command ℕ ℕ K)) (replies : List (Reply ℕ ℕ))
+      : Type 0 where
     pub run : IsTypedRun limits commands replies
     pub one_client : CreatesOneClient pool commands replies
     pub least : WantsMemory commands replies ↔ (pool < worst_case_requests limits)

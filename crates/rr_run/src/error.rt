@@ -1,8 +1,8 @@
-//! What a run is refused for.
+//! The error of a run.
 use std::alloc::AllocError;
 use thiserror::Error;
 
-/// No memory was found for the replies of a run.
+/// There was no memory for the replies of a run.
 #[derive(Clone, Copy, Debug, PartialEq, Eq, Hash, Error)]
 #[error("OutOfMemory")]
 pub struct OutOfMemory;

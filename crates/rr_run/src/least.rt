@@ -1,11 +1,32 @@
-//! The least pool of a client.
+//! The least request pool of a client, shown by a run that needs every slot.
+//!
+//! Where requests don't overflow, an unreduced pool has `N = s * a + s * a + a + l` slots, for `s` servers, `a`
+//! active and `l` loaned requests. This run makes `N` requests live at once:
+//!
+//! ```text
+//! for each of the s servers, which is created then:
+//!   a times   SendCopy, Receive, Release of the pending response     held by the server's active request
+//!   a times   SendCopy, Release of the pending response              held by the queue to the server
+//! a times     SendCopy                                               held by the pending response
+//! l times     Loan                                                   held by its handle
+//! ```
+//!
+//! - A request whose pending response was released is dead, but it keeps its slot until a receive of its server drops
+//!   it, and the servers make no further receives.
+//! - The client skips full queues (`DiscardData`). While a later server is served, the queues to the earlier ones are
+//!   full, so only the later server's queue takes the requests that are sent.
+//! - A queue takes `a` entries, and a server may hold `a` requests of a client.
+//! - Before the queue to a server is filled, the server has received every request queued for it.
+//!
+//! So with a pool of `n` slots a loan is answered `OutOfMemory` exactly if `n < N`, and the run ends there. With
+//! iceoryx2's default configuration `N` is 22: the last reply of `rr least 21` is `error OutOfMemory`, that of
+//! `rr least 22` is `loaned 32`.
 ghost use Rattle.std.specs.Prelude.{◌≡◌, ◌↔◌, Err, IfOk};
 ghost use Rattle.rr_run.specs.declared.least.LeastPoolError.TheVariants.{WrongLimits};
 ghost use Rattle.rr_run.specs.Least.{AreWrong, ShowsPool};
 
 use crate::least::filling::Filling;
-use rr_commands::{Command, Reply};
-use rr_protocol::{Limits, NoHandler};
+use rr_protocol::{Command, Limits, NoHandler, Reply};
 use std::alloc::Global;
 use thiserror::Error;
 
@@ -25,24 +46,25 @@ pub enum LeastPoolError {
     /// The limits make no hub, or a full queue of requests overflows.
     #[error("WrongLimits")]
     WrongLimits,
-    /// No memory was found for a port, the commands or the replies, or the list takes more numbers than there are.
+    /// There was no memory for a port, the commands or the replies, or the list takes more numbers than a hub has.
     #[error("OutOfMemory")]
     OutOfMemory,
 }
 
 /// Returns a list of commands and their replies, which shows whether a request pool of `n` slots is enough.
 ///
-/// They are a run of the typed machine with these limits. One client is created, with a pool of `n` slots, at least 1 and at most
-/// the worst case. Each server then holds as many of its requests as it may, and as many stand in the queue to it; as many wait for
-/// responses as may, and as many are on loan. A loan of the client is answered `OutOfMemory` exactly if `n` is below the worst
-/// case, `max_loaned_requests + max_active_requests_per_client * (1 + 2 * max_servers)`; that reply is then the last one. So no
-/// smaller pool is enough. Takes time in proportion to the commands. Not in iceoryx2.
+/// They are a run of the typed machine with these limits. The list creates one client, with a pool of `n` slots,
+/// clamped to 1 up to the worst case. Then it makes each server hold its maximum of the client's requests and fills
+/// the queue to that server; last, the client gets its maximum of pending responses and of loans. A loan of the
+/// client is answered `OutOfMemory` exactly if `n` is below the worst case, `max_loaned_requests +
+/// max_active_requests_per_client * (1 + 2 * max_servers)`; that reply is then the last one. So no smaller pool is
+/// enough. Takes time in proportion to the commands. Not in iceoryx2.
 ///
 /// # Errors
 ///
 /// - `WrongLimits` exactly if the limits make no hub, or full queues of requests overflow.
-/// - `OutOfMemory` if no memory was found for a port, the commands or the replies, or if the list takes more numbers than a hub
-///   gives.
+/// - `OutOfMemory` if there was no memory for a port, the commands or the replies, or if the list takes more numbers
+///   than a hub has.
 pub fn least_pool(
     alloc: Global,
     limits: &Limits,

@@ -10,7 +10,8 @@ use rr_run::least_pool;
 use std::alloc::Global;
 use std::io::{BufRead, Write};
 
-/// Reads the line of a hub, and writes the replies for a pool of as many slots as the word says. Looks at no line after it.
+/// Reads the line of a hub, and writes the replies for a pool of as many slots as the argument says. Reads no further
+/// line.
 pub(crate) fn least<R: BufRead + Drop, W: Write>(
     alloc: Global,
     word: &str,
@@ -29,7 +30,7 @@ pub(crate) fn least<R: BufRead + Drop, W: Write>(
     }
 }
 
-/// Writes the replies for a pool of so many slots, or why there are none.
+/// Writes the replies for a pool of this many slots, or why there are none.
 fn write_least<W: Write>(
     alloc: Global,
     limits: &Limits,

@@ -1,4 +1,5 @@
-//! What the program `rr` does: scripts, whose lines are commands of a runner; the replies of least pools; and exchanges of two threads.
+//! The program `rr`: scripts, whose lines are commands of a runner; the replies of least pools; and exchanges of two
+//! threads.
 #![tactic(auto)]
 
 mod least;

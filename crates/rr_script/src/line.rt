@@ -1,15 +1,15 @@
-//! What a line of a script says.
+//! The lines of a script.
 use crate::words::{Words, number};
-use rr_commands::Command;
 use rr_protocol::{
-    AllocationStrategy, BackpressureStrategy, ClientSettings, Limits, NoHandler, ServerSettings,
+    AllocationStrategy, BackpressureStrategy, ClientSettings, Command, Limits, NoHandler,
+    ServerSettings,
 };
 use rr_slots::Family;
 
 /// A command of a script, whose elements and user headers are numbers.
 pub(crate) type ScriptCommand = Command<u64, u64, NoHandler>;
 
-/// What a line says.
+/// A parsed line.
 #[derive(Drop)]
 pub(crate) enum Line {
     /// It makes a hub of a family.
@@ -18,7 +18,7 @@ pub(crate) enum Line {
     Command(ScriptCommand),
 }
 
-/// Returns what a line says, by its first word and those after it. Returns `None` if it isn't one of the script's lines.
+/// Parses a line from its first word and those after it. Returns `None` if it isn't one of the script's lines.
 pub(crate) fn line_of(first: &str, words: &mut Words) -> Option<Line> {
     let line = match first {
         "hub" => Line::Hub(family(words.take()?)?, limits(words)?),
@@ -117,7 +117,7 @@ fn flags(word: &str) -> Option<(bool, bool, bool)> {
     }
 }
 
-/// What a client and a server are both created with.
+/// The settings that clients and servers have in common.
 #[derive(Clone, Copy)]
 struct PortWords {
     strategy: BackpressureStrategy,
@@ -126,7 +126,7 @@ struct PortWords {
     pool: Option<usize>,
 }
 
-/// What a port is created with.
+/// Reads the settings that clients and servers have in common.
 fn port(words: &mut Words) -> Option<PortWords> {
     Some(PortWords {
         strategy: strategy(words.take()?)?,

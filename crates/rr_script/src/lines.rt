@@ -32,7 +32,7 @@ impl<R: BufRead + Drop> Lines<R> {
         Stop::BadLine(self.number.saturating_add(1))
     }
 
-    /// Returns what the next line that has words says, or `None` if no such line is left.
+    /// Parses the next line that has words. Returns `None` if no such line is left.
     pub(crate) fn read(&mut self) -> Result<Option<Line>, Stop> {
         for _ in 0..u64::MAX {
             if !self.advance()? {

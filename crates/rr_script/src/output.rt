@@ -1,8 +1,7 @@
-//! What the program writes.
+//! The output of the program.
 use crate::reply_text::{hub_error, write_reply};
 use crate::stop::Stop;
-use rr_commands::Reply;
-use rr_protocol::HubCreateError;
+use rr_protocol::{HubCreateError, Reply};
 use std::io::Write;
 
 /// Writes a line of two parts.
@@ -13,7 +12,8 @@ pub(crate) fn tell<W: Write>(output: &mut W, first: &str, second: &str) -> Resul
     }
 }
 
-/// Writes why no hub was made, as a reply. Returns why the program ends: the hub was refused, or that could not be written.
+/// Writes why no hub was made, as a reply. Returns why the program ends: the hub was refused, or that could not be
+/// written.
 pub(crate) fn refuse_hub<W: Write>(output: &mut W, error: HubCreateError) -> Stop {
     match tell(output, "error ", hub_error(error)) {
         Ok(()) => Stop::Refused,

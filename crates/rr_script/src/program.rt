@@ -18,11 +18,12 @@ const MOST_ROUNDS: u64 = 100_000;
 /// How often a worker reads its bell for one message.
 const TURNS: u64 = 1_000_000_000;
 
-/// Runs the program: does what the words ask for, and returns its status.
+/// Runs the program as its arguments say, and returns its status.
 ///
-/// `threads` and a number of rounds, from 0 to 100000, let two threads at one hub send and answer so many requests, and write the
-/// sum of the answers; no input is read. All other words are those of `serve_alone`. Beside its statuses it returns 4 if a command
-/// of a worker found no memory, or a worker gave up. Not in iceoryx2.
+/// `threads` and a number of rounds, from 0 to 100000, make two threads at one hub send and answer that number of
+/// requests, and write the sum of the answers; no input is read. All other words are those of `serve_alone`. In
+/// addition to its statuses it returns 4 if a command of a worker found no memory, or a worker gave up. Not in
+/// iceoryx2.
 pub fn serve<T: Threads + Wait + Sync, R: BufRead + Drop, W: Write, F: Write>(
     rt: &T,
     alloc: Global,
@@ -39,7 +40,7 @@ pub fn serve<T: Threads + Wait + Sync, R: BufRead + Drop, W: Write, F: Write>(
     }
 }
 
-/// Lets two workers send and answer as many requests as the word says, and writes the sum of the answers.
+/// Makes two workers send and answer as many requests as the argument says, and writes the sum of the answers.
 fn threads<T: Threads + Wait + Sync, W: Write>(
     rt: &T,
     alloc: Global,
@@ -61,12 +62,13 @@ fn threads<T: Threads + Wait + Sync, W: Write>(
     }
 }
 
-/// Runs the program in one thread: does what the words ask for, and returns its status.
+/// Runs the program in one thread as its arguments say, and returns its status.
 ///
-/// `script` alone reads commands from the input, one a line, and writes each reply before the next line is read. `least` and a
-/// number, from 0 to 2^64 - 1, read one line that makes a hub, and write the replies of `least_pool` for its limits and a pool of
-/// that number. 0 if all was done. Else one line goes to `faults`: 1 for a line that isn't one of the script's (`bad line L`), 2
-/// for a read or write that failed, 3 for other words, 4 if the hub or `least_pool` was refused or a buffer found no memory. What
+/// `script` alone reads commands from the input, one per line, and writes each reply before it reads the next line.
+/// `least` and a number, from 0 to 2^64 - 1, read one line that makes a hub, and write the replies of `least_pool`
+/// for its limits and a pool of that number. The status is 0 if all was done. Otherwise one line goes to `faults`,
+/// and the status is 1 for a line that isn't one of the script's (`bad line L`), 2 for a read or write that failed, 3
+/// for other arguments, and 4 if the hub or `least_pool` was refused or there was no memory for a buffer. Output that
 /// was written before stays. Not in iceoryx2.
 pub fn serve_alone<R: BufRead + Drop, W: Write, F: Write>(
     alloc: Global,
@@ -87,8 +89,8 @@ pub fn serve_alone<R: BufRead + Drop, W: Write, F: Write>(
     ended(end, faults)
 }
 
-/// Returns the status of a program that ends so. Writes why it stopped early, in one line; what can't be written there is written
-/// nowhere.
+/// Returns the status of a program that ends so. Writes why it stopped early, in one line; a failed write of that
+/// line is ignored.
 pub fn ended<F: Write>(end: Result<(), Stop>, faults: &mut F) -> u8 {
     match end {
         Ok(()) => 0,

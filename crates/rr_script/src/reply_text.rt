@@ -1,8 +1,8 @@
 //! The text of a reply.
-use rr_commands::Reply;
 use rr_protocol::{
     BackpressureStrategy, ClientCreateError, ConnectionFailure, HubCreateError, LoanError,
-    ReceiveError, RequestHeader, RequestSendError, ResponseHeader, SendError, ServerCreateError,
+    ReceiveError, Reply, RequestHeader, RequestSendError, ResponseHeader, SendError,
+    ServerCreateError,
 };
 use rr_run::LeastPoolError;
 use std::io::{self, Write};
@@ -86,8 +86,8 @@ fn write_elements<W: Write>(out: &mut W, elements: &[u64]) -> io::Result<()> {
     writeln!(out)
 }
 
-/// The text of an error, in three parts: of which call inside a send it came, why, and its name. The first two end with a
-/// space, or are empty.
+/// The text of an error, in three parts: of which call inside a send it came, why, and its name. The first two end
+/// with a space, or are empty.
 #[derive(Clone, Copy)]
 struct ErrorText {
     call: &'static str,

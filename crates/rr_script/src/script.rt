@@ -3,8 +3,7 @@ use crate::line::{Line, ScriptCommand};
 use crate::lines::Lines;
 use crate::output::{refuse_hub, tell, write_replies};
 use crate::stop::Stop;
-use rr_commands::Reply;
-use rr_protocol::{Limits, NoHandler, UniqueNodeId};
+use rr_protocol::{Limits, NoHandler, Reply, UniqueNodeId};
 use rr_run::{OutOfMemory, Runner, run};
 use rr_slots::{Family, SliceBody, WriteBody};
 use std::alloc::Global;
@@ -23,7 +22,7 @@ pub(crate) fn script<R: BufRead + Drop, W: Write>(
     play(alloc, &mut lines, output)
 }
 
-/// Makes the hub of the first line, which tells its family, and carries out the other lines.
+/// Makes the hub of the first line, which names its family, and carries out the other lines.
 fn play<R: BufRead + Drop, W: Write>(
     alloc: Global,
     lines: &mut Lines<R>,

@@ -5,10 +5,10 @@ use std::io::{self, BufRead};
 /// How many bytes a line may hold before its line feed.
 const MOST: usize = 4096;
 
-/// What was read.
+/// The result of reading a line.
 #[derive(Clone, Copy, Debug, PartialEq, Eq)]
 pub(crate) enum Found {
-    /// A line stands in the buffer, without its line feed and one carriage return before it.
+    /// The buffer has a line, without its line feed and one carriage return before it.
     Line,
     /// The line is longer than a line may be.
     TooLong,
@@ -16,7 +16,7 @@ pub(crate) enum Found {
     End,
 }
 
-/// What was read of a line.
+/// A part of a line, as it was read.
 #[derive(Clone, Copy)]
 enum Part {
     /// Some of it.
@@ -58,7 +58,7 @@ impl<R: BufRead + Drop> Source<R> {
         Ok(Found::TooLong)
     }
 
-    /// Reads what the input has at hand, up to a line feed.
+    /// Reads the input's available bytes, up to a line feed.
     fn read_part(&mut self) -> io::Result<Part> {
         let bytes = self.input.fill_buf()?;
         if bytes.is_empty() {

@@ -10,11 +10,11 @@ pub enum Stop {
     ReadFault,
     /// A write failed.
     WriteFault,
-    /// The program doesn't know the words after its name.
+    /// The program's arguments are invalid.
     Usage,
     /// The hub was refused.
     Refused,
-    /// A buffer of the program, or a command of its workers, found no memory.
+    /// There was no memory for a buffer of the program, or for a command of its workers.
     NoMemory,
     /// A worker gave up after its limit of turns.
     Turns,
@@ -31,7 +31,7 @@ impl Stop {
         }
     }
 
-    /// Writes it in one line. What can't be written there is written nowhere.
+    /// Writes it in one line. A write error is returned, and reported nowhere else.
     pub fn tell<W: Write>(self, faults: &mut W) -> io::Result<()> {
         match self {
             Stop::BadLine(number) => writeln!(faults, "{} {number}", self.text()),
@@ -39,7 +39,7 @@ impl Stop {
         }
     }
 
-    /// What it reads as, without a line's number.
+    /// Returns its text, without a line's number.
     fn text(self) -> &'static str {
         match self {
             Stop::BadLine(_) => "bad line",

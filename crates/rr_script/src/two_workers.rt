@@ -3,12 +3,11 @@ ghost use Rattle.std.specs.Prelude.{◌≡◌};
 
 use crate::output::refuse_hub;
 use crate::stop::Stop;
-use rr_commands::Reply;
 use rr_locked::{
     Bells, CREATE_CLIENT, CREATE_SERVER, HubReply, LockedHub, Plan, Seat, Submit, WorkerError,
     answer_all, ask_all,
 };
-use rr_protocol::{Limits, UniqueNodeId};
+use rr_protocol::{Limits, Reply, UniqueNodeId};
 use std::alloc::Global;
 use std::io::Write;
 use std::sync::Wait;
@@ -16,7 +15,8 @@ use std::sync::ledger::{Blank, Ledger};
 use std::thread;
 use std::thread::Threads;
 
-/// The limits of the hub: two clients, one server, two loaned and two active requests, two queued and one borrowed response.
+/// The limits of the hub: two clients, one server, two loaned and two active requests, two queued and one borrowed
+/// response.
 const LIMITS: Limits = Limits {
     max_clients: 2,
     max_loaned_requests: 2,
@@ -27,11 +27,11 @@ const LIMITS: Limits = Limits {
     ..Limits::SMALLEST
 };
 
-/// Makes a hub with a client and a server, and lets a worker of each send and answer requests, each in its own thread. Returns the
-/// sum of the answers, modulo 2^64.
+/// Makes a hub with a client and a server, and lets a worker of each send and answer requests, each in its own
+/// thread. Returns the sum of the answers, modulo 2^64.
 ///
-/// The blank is to have `PARTS` parts, and is spent. Ports are created through a seat of the caller's own; all seats are handed to
-/// `finish`. Not in iceoryx2.
+/// The blank must have `PARTS` parts, and is consumed. Ports are created through a seat of the caller's own; all
+/// seats are handed to `finish`. Not in iceoryx2.
 ///
 /// # Errors
 ///
@@ -92,7 +92,7 @@ fn created(reply: HubReply) -> Result<u64, Stop> {
     }
 }
 
-/// Lets both workers work, each in its own thread. Returns their seats and what came of it.
+/// Runs both workers, each in its own thread. Returns their seats and the result.
 fn work<L: Ledger + Send + Sync, T: Threads + Wait + Sync>(
     rt: &T,
     hub: &LockedHub<L>,
@@ -138,7 +138,7 @@ fn answer_from<L: Ledger, T: Wait>(
     (seat, end)
 }
 
-/// Returns the sum if both workers did all rounds, else why the program ends.
+/// Returns the sum if both workers did all rounds, and otherwise why the program ends.
 fn outcome(sum: Result<u64, WorkerError>, end: Result<(), WorkerError>) -> Result<u64, Stop> {
     match (sum, end) {
         (Ok(sum), Ok(())) => Ok(sum),

@@ -1,6 +1,6 @@
 //! The words of a line.
 
-/// The words of a line, which one or more spaces part.
+/// The words of a line, separated by one or more spaces.
 #[derive(Drop)]
 pub(crate) struct Words<'a> {
     rest: &'a str,
@@ -41,7 +41,7 @@ impl<'a> Words<'a> {
         usize::try_from(self.number()?).ok()
     }
 
-    /// The next words as so many counts.
+    /// Returns the next `N` words as counts.
     pub(crate) fn counts<const N: usize>(&mut self) -> Option<[usize; N]> {
         let mut counts = [0; N];
         for index in 0..N {
@@ -56,7 +56,7 @@ impl<'a> Words<'a> {
     }
 }
 
-/// Returns the number that a word of decimal digits alone says. Returns `None` for another word, or if it is above 2^64 - 1.
+/// Parses a word of decimal digits. Returns `None` for any other word, or if the number is above 2^64 - 1.
 pub(crate) fn number(word: &str) -> Option<u64> {
     if word.bytes().all(|byte| byte.is_ascii_digit()) {
         word.parse::<u64>().ok()

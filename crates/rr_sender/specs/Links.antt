@@ -1,9 +1,9 @@
--- What the links from one port to its receivers keep.
+-- The links from one port to its receivers, as contracts see them.
 use Rattle.std.specs.Prelude.{◌≡◌, ◌≤◌, ℕ, List, [], length, map, replicate, All}
 use Rattle.rr_sender.specs.Senders.{set_two}
 use Rattle.rr_sender.specs.declared.links.Link.{Link}
 
--- for each receiver, by channel, the slots that wait in its queue and how many it received and has not given back
+-- for each receiver, by channel, the slots in its queue and the number of its borrows
 pub record Sent : Type 0 where
   pub queues : List (List (List ℕ))
   pub borrowed : List (List ℕ)
@@ -14,13 +14,14 @@ sent queues borrowed capacity = record { queues = queues; borrowed = borrowed; c
 
 -- nothing was sent
 abbrev pub nothing_sent : ℕ → ℕ → ℕ → Sent
-nothing_sent receivers channels capacity = sent (replicate receivers (replicate channels [])) (replicate receivers (replicate channels 0)) capacity
+nothing_sent receivers channels capacity =
+    sent (replicate receivers (replicate channels [])) (replicate receivers (replicate channels 0)) capacity
 
 -- a receiver's channel has these entries
 abbrev pub with_entries : Sent → ℕ → ℕ → List ℕ → Sent
 with_entries s receiver channel entries = record s { queues = set_two s.queues receiver channel entries }
 
--- a receiver has so many from a channel
+-- after the receiver's number of borrows from a channel was set
 abbrev pub with_count : Sent → ℕ → ℕ → ℕ → Sent
 with_count s receiver channel n = record s { borrowed = set_two s.borrowed receiver channel n }
 

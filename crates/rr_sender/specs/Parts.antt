@@ -1,4 +1,4 @@
--- What the parts of a sender stand for.
+-- The messages that the parts of a sender represent.
 use Rattle.std.specs.Prelude.{◌≡◌, ◌≤◌, ℕ, ◌+◌, ◌-◌, List, [], ◌∷◌, length, map, slice_index, refl}
 use Rattle.std.specs.Coded.{Coded, code_by, coded×, coded_list, coded_ℕ}
 use Rattle.rr_slots.specs.Pools.{Slots, Written, written_code}
@@ -10,12 +10,24 @@ use Rattle.rr_sender.specs.declared.sender.Head.{Head}
 abbrev pub messages_code : {T N H : Type 0} → Coded T → Coded N → Coded H → Coded (Messages T N H)
 messages_code t n h =
     code_by (List (Written _) × (List _ × (List _ × (List ℕ × (List (List (List ℕ)) × (List (List ℕ) × (ℕ × ℕ)))))))
-    (coded× (coded_list (written_code t)) (coded× (coded_list n) (coded× (coded_list h) (coded× (coded_list coded_ℕ) (coded× (coded_list (coded_list (coded_list coded_ℕ))) (coded× (coded_list (coded_list coded_ℕ)) (coded× coded_ℕ coded_ℕ)))))))
+    (coded× (coded_list (written_code t)) (coded× (coded_list n)
+    (coded× (coded_list h) (coded× (coded_list coded_ℕ)
+    (coded× (coded_list (coded_list (coded_list coded_ℕ)))
+    (coded× (coded_list (coded_list coded_ℕ)) (coded× coded_ℕ coded_ℕ)))))))
     (λ m. (m.contents, (m.details, (m.user_headers, (m.held, (m.queues, (m.borrowed, (m.capacity, m.room))))))))
-    (λ p. record { contents = p.0; details = p.1.0; user_headers = p.1.1.0; held = p.1.1.1.0; queues = p.1.1.1.1.0; borrowed = p.1.1.1.1.1.0; capacity = p.1.1.1.1.1.1.0; room = p.1.1.1.1.1.1.1 })
+    (λ p. record {
+      contents = p.0;
+      details = p.1.0;
+      user_headers = p.1.1.0;
+      held = p.1.1.1.0;
+      queues = p.1.1.1.1.0;
+      borrowed = p.1.1.1.1.1.0;
+      capacity = p.1.1.1.1.1.1.0;
+      room = p.1.1.1.1.1.1.1;
+    })
     (λ _. refl)
 
--- of the holders of slots from i on, how many are no entries
+-- of the holders of slots from i on, the number of those that are no entries
 abbrev pub held_from : ℕ → List ℕ → List ℕ → List ℕ
 held_from i [] entries = []
 held_from i (h ∷ holders) entries = (h - times i entries) ∷ held_from (i + 1) holders entries
@@ -30,7 +42,7 @@ details_of heads = map (λ head. head.details) heads
 abbrev pub headers_of : {N H : Type 0} → List (Head N H) → List H
 headers_of heads = map (λ head. head.user_header) heads
 
--- a pool, the heads of its slots, and what was sent of them
+-- the messages of a pool, the heads of its slots, and the links
 abbrev pub messages : {T N H : Type 0} → Slots T → List (Head N H) → Sent → Messages T N H
 messages pool heads s = record {
   contents = pool.contents;

@@ -1,8 +1,10 @@
--- What contracts see of a sender, from which one port sends.
+-- The sending half of a port as contracts see it.
 use Rattle.std.specs.Prelude.{◌≡◌, zero, suc, ℕ, ◌+◌, ◌-◌, Bool, not, ◌&&◌, ◌==◌, nat_le, cond, if◌then◌else◌, List, [], ◌∷◌, ◌++◌, length, drop, take, flat_map, slice_index, slice_index_or, slice_set}
 use Rattle.rr_slots.specs.Pools.{Written, emptied, nothing_written, with_elements}
 
--- for each slot what stands in it, the details of its message, its user header, and how many hold it beside the queues; and for each receiver, by channel, the slots that wait in its queue and how many it received and has not given back
+-- for each slot its content, the details of its message, its user header, and its number of holders apart from the
+-- queues; and for each receiver, by channel, the slots in its queue and the number that it received and has not given
+-- back
 pub record Messages (T N H : Type 0) : Type 0 where
   pub contents : List (Written T)
   pub details : List N
@@ -13,7 +15,7 @@ pub record Messages (T N H : Type 0) : Type 0 where
   pub capacity : ℕ
   pub room : ℕ
 
--- how often a number stands in a list
+-- how often a number occurs in a list
 abbrev pub times : ℕ → List ℕ → ℕ
 times i [] = 0
 times i (x ∷ xs) = cond (x == i) 1 0 + times i xs
@@ -26,26 +28,26 @@ all_entries queues = flat_map (λ channels. flat_map (λ queue. queue) channels)
 abbrev pub at_two : {X : Type 0} → X → List (List X) → ℕ → ℕ → X
 at_two default rows i j = slice_index_or (slice_index_or rows i []) j default
 
--- a list of lists after one element became another
+-- a list of lists after one element was replaced
 abbrev pub set_two : {X : Type 0} → List (List X) → ℕ → ℕ → X → List (List X)
 set_two rows i j x = slice_set rows i (slice_set (slice_index_or rows i []) j x)
 
--- whether a list of entries takes no more
+-- whether a list of entries is full
 abbrev pub is_full : ℕ → List ℕ → Bool
 is_full capacity entries = nat_le capacity (length entries)
 
--- a list after a slot came: at the end, in a full one in place of the oldest or not at all
+-- a list after a slot was appended; in a full list the slot replaces the oldest, or is not added
 abbrev pub put : Bool → ℕ → List ℕ → ℕ → List ℕ
 put overflow capacity entries slot =
     if not (is_full capacity entries) then entries ++ slot ∷ []
     else if overflow then drop 1 entries ++ slot ∷ []
     else entries
 
--- which entry leaves a list as a slot comes: of a full one with overflow the oldest
+-- the entry that a new slot displaces: the oldest of a full list with overflow
 abbrev pub evicted : Bool → ℕ → List ℕ → List ℕ
 evicted overflow capacity entries = if overflow && is_full capacity entries then take 1 entries else []
 
--- what stands in slots, where those that pass a test are emptied
+-- the contents of the slots, where those that pass a test are emptied
 abbrev pub emptied_where : {T : Type 0} → (ℕ → Bool) → List (Written T) → List (Written T)
 emptied_where test [] = []
 emptied_where test (w ∷ ws) = cond (test 0) (emptied w) w ∷ emptied_where (λ i. test (suc i)) ws
@@ -55,7 +57,7 @@ module _ {T N H : Type 0} where
   abbrev pub queue_at : Messages T N H → ℕ → ℕ → List ℕ
   queue_at m receiver channel = at_two [] m.queues receiver channel
 
-  -- how many a receiver has from a channel
+  -- the number of a receiver's borrows from a channel
   abbrev pub borrowed_at : Messages T N H → ℕ → ℕ → ℕ
   borrowed_at m receiver channel = at_two 0 m.borrowed receiver channel
 
@@ -72,7 +74,7 @@ module _ {T N H : Type 0} where
   abbrev pub used_count : Messages T N H → ℕ
   used_count m = used_below m (length m.held)
 
-  -- a slot that was free is held once, for a message that asks for so many elements
+  -- after a free slot was acquired, held once, for a message of this length
   abbrev pub loaned : Messages T N H → ℕ → ℕ → N → H → Messages T N H
   loaned m slot len details user_header =
       record m {
@@ -82,7 +84,7 @@ module _ {T N H : Type 0} where
         held = slice_set m.held slot 1;
       }
 
-  -- a slot is held by so many
+  -- after a slot's number of holders was set
   abbrev pub with_held : Messages T N H → ℕ → ℕ → Messages T N H
   with_held m slot n = record m { held = slice_set m.held slot n }
 
@@ -90,7 +92,7 @@ module _ {T N H : Type 0} where
   abbrev pub with_queue : Messages T N H → ℕ → ℕ → List ℕ → Messages T N H
   with_queue m receiver channel entries = record m { queues = set_two m.queues receiver channel entries }
 
-  -- a receiver has so many from a channel
+  -- after a receiver's number of borrows from a channel was set
   abbrev pub with_borrowed : Messages T N H → ℕ → ℕ → ℕ → Messages T N H
   with_borrowed m receiver channel n = record m { borrowed = set_two m.borrowed receiver channel n }
 
@@ -102,50 +104,54 @@ module _ {T N H : Type 0} where
   abbrev pub emptied_among : List ℕ → Messages T N H → Messages T N H
   emptied_among slots m = record m { contents = emptied_where (is_left slots m) m.contents }
 
-  -- a handle less holds a slot, which is emptied if that was its last use
+  -- after a slot lost one handle; it is emptied if that was its last use
   abbrev pub given_back : Messages T N H → ℕ → Messages T N H
   given_back m slot = emptied_among (slot ∷ []) (with_held m slot (slice_index m.held slot - 1))
 
-  -- the oldest entry of a receiver's channel is gone, and its slot is emptied if that was its last use
+  -- after the oldest entry of a receiver's channel was removed, and its slot emptied if that was its last use
   abbrev pub first_dropped : Messages T N H → ℕ → ℕ → Messages T N H
   first_dropped m receiver channel =
-      emptied_among (take 1 (queue_at m receiver channel)) (with_queue m receiver channel (drop 1 (queue_at m receiver channel)))
+      emptied_among (take 1 (queue_at m receiver channel))
+      (with_queue m receiver channel (drop 1 (queue_at m receiver channel)))
 
-  -- every entry of a receiver's channel is gone, and each slot is emptied of which that was the last use
+  -- after all entries of a receiver's channel were removed, and each slot emptied whose last use that was
   abbrev pub queue_cleared : Messages T N H → ℕ → ℕ → Messages T N H
   queue_cleared m receiver channel = emptied_among (queue_at m receiver channel) (with_queue m receiver channel [])
 
-  -- a slot came to a receiver's channel, and the slot of an entry that left for it is emptied if that was its last use
+  -- after a slot was appended to a receiver's channel, and the slot of a displaced entry emptied if that was its last
+  -- use
   abbrev pub put_into : Bool → Messages T N H → ℕ → ℕ → ℕ → Messages T N H
   put_into overflow m receiver channel slot =
       emptied_among (evicted overflow m.capacity (queue_at m receiver channel))
       (with_queue m receiver channel (put overflow m.capacity (queue_at m receiver channel) slot))
 
-  -- and a handle less holds that slot, which is emptied if it didn't come
+  -- and one handle of that slot was given back; the slot is emptied if it was not appended
   abbrev pub handed_over : Bool → Messages T N H → ℕ → ℕ → ℕ → Messages T N H
   handed_over overflow m receiver channel slot =
       emptied_among (slot ∷ evicted overflow m.capacity (queue_at m receiver channel))
       (with_held (with_queue m receiver channel (put overflow m.capacity (queue_at m receiver channel) slot)) slot
       (slice_index m.held slot - 1))
 
-  -- the oldest entry of a receiver's channel became one that the receiver has
+  -- the oldest entry of a receiver's channel became a borrow of the receiver
   abbrev pub taken : Messages T N H → ℕ → ℕ → ℕ → List ℕ → Messages T N H
   taken m receiver channel slot rest =
-      with_borrowed (with_held (with_queue m receiver channel rest) slot (slice_index m.held slot + 1)) receiver channel (borrowed_at m receiver channel + 1)
+      with_borrowed (with_held (with_queue m receiver channel rest) slot (slice_index m.held slot + 1)) receiver
+      channel (borrowed_at m receiver channel + 1)
 
-  -- what stands in a slot; nothing where there is no such slot
+  -- the content of a slot; nothing if there is no such slot
   abbrev pub content_at : Messages T N H → ℕ → Written T
   content_at m slot = slice_index_or m.contents slot (nothing_written 0)
 
-  -- what stands in a slot changed
+  -- after the content of a slot changed
   abbrev pub with_changed_at : Messages T N H → ℕ → (Written T → Written T) → Messages T N H
   with_changed_at m slot change = record m { contents = slice_set m.contents slot (change (content_at m slot)) }
 
-  -- what stands in one slot became complete, by whatever elements
+  -- after the content of one slot became complete, with unspecified elements
   abbrev pub CompletesAt : Messages T N H → ℕ → Messages T N H → Type 0
   CompletesAt old slot new =
-      (elements : List T) × (length elements ≡ (content_at old slot).asked_len) × (new ≡ with_changed_at old slot (with_elements elements))
+      (elements : List T) × (length elements ≡ (content_at old slot).asked_len)
+      × (new ≡ with_changed_at old slot (with_elements elements))
 
-  -- a slot's user header became another
+  -- after a slot's user header was replaced
   abbrev pub with_user_header : Messages T N H → ℕ → H → Messages T N H
   with_user_header m slot header = record m { user_headers = slice_set m.user_headers slot header }

@@ -20,7 +20,7 @@ impl BitSets {
         }
     }
 
-    /// Makes a column for 64 numbers more in each of so many sets, none of which has them, and gets room for it.
+    /// Returns a column of words for 64 more numbers of `sets` sets, without members, and reserves room for it.
     ///
     /// # Errors
     ///
@@ -51,7 +51,7 @@ impl BitSets {
         self.columns.len()
     }
 
-    /// Returns a word of a set, and 0 where it has none.
+    /// Returns a word of a set, and 0 if the set doesn't have it.
     #[inline(always)]
     pub(crate) fn word(&self, set: usize, index: usize) -> u64
         ensures { result ≡ word_of self.now set index }
@@ -109,14 +109,14 @@ impl BitSets {
         rest
     }
 
-    /// Returns whether a set is known to have at most one number. It is not if there are several columns.
+    /// Returns `true` if a set is known to have at most one member, which takes a single column.
     #[inline(always)]
     pub(crate) fn is_in_one_word(&self, set: usize) -> bool {
         let word = self.word(set, 0);
         self.columns.len() == 1 && word & word.wrapping_sub(1) == 0
     }
 
-    /// Returns the first number of a set from one on that stands in the same word.
+    /// Returns the first number of a set at or after `from` in the same word.
     #[inline(always)]
     pub(crate) fn next_in_word(&self, set: usize, from: usize) -> Option<usize>
         ensures next { IsNextInWord self.now set from result }
@@ -129,8 +129,8 @@ impl BitSets {
         Some(from + rest.trailing_zeros() as usize)
     }
 
-    /// Returns the first number of a set in one of its words: the first from another number on, if that stands in the same word, and,
-    /// if there is none, the first of all.
+    /// Returns the first number of a set in the word at `index`, at or after `from` if that is in the same word,
+    /// wrapping around to the start of the word.
     #[inline(always)]
     pub(crate) fn next_around_in_word(&self, set: usize, index: usize, from: usize) -> Option<usize>
         requires { index < 2 ^ 58 }
@@ -145,7 +145,7 @@ impl BitSets {
         self.next_in_word(set, index * 64)
     }
 
-    /// Returns the first number of a set from one on, looking at one word after another.
+    /// Returns the first number of a set at or after `from`. Reads the words in order.
     pub(crate) fn next_from(&self, set: usize, from: usize) -> Option<usize>
         requires { length self.now.columns.items ≤ 2 ^ 58 }
         ensures { IsFirstFrom self.now set from result }

@@ -1,5 +1,5 @@
-//! What a port sends from: the slots of its messages, and the queues of what it sent to each receiver; and from which sender a
-//! receiver takes first.
+//! The sending half of a port: the slots of its messages, and the queues to each receiver; and the round-robin
+//! cursors of receivers.
 #![tactic(auto)]
 
 mod bit_sets;

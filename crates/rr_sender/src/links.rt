@@ -1,4 +1,4 @@
-//! The links from one port to its receivers: the queues, and what each receiver has not given back.
+//! The links from one port to its receivers: the queues, and the receivers' borrows.
 ghost use Rattle.std.specs.Prelude.{◌≡◌, ℕ, ◌+◌, ◌-◌, ◌<◌, ◌≤◌, ◌^◌, ◌↔◌, ◌++◌, ◌∷◌, [], All, IfOk, IsTrue, Some, drop, length, nat_lt, replicate, slice_get, slice_index_or};
 ghost use Rattle.std.specs.List.{list_any};
 ghost use Rattle.rr_sender.specs.Senders.{at_two, is_full};
@@ -8,16 +8,16 @@ use rr_slots::Connection;
 use std::alloc::{AllocError, Global};
 use std::marker::Model;
 
-/// The queues to one receiver, and how many it received from each channel and has not given back.
+/// The queues to one receiver, and the number of its borrows from each channel.
 #[derive(Drop)]
 pub(crate) struct Link {
     borrowed: Vec<usize>,
     connection: Connection,
-    // With it a link has 64 bytes, and stands where a shift of its index says and no product.
+    // With it a link has 64 bytes, so its address is computed from its index by a shift instead of a multiplication.
     padding: [u64; 1],
 }
 
-/// The links to each receiver, all of one capacity. All memory is taken by `new`.
+/// The links to each receiver, all of one capacity. `new` takes all memory.
 #[derive(Drop)]
 pub(crate) struct Links {
     links: Vec<Link>,
@@ -37,8 +37,8 @@ impl Model for Links {
 impl Links {
     ghost use Rattle.rr_sender.specs.Links.{nothing_sent, with_entries, with_count};
 
-    /// Links to so many receivers, each with so many channels, on which nothing was sent. `AllocError` where there is no
-    /// memory for them all.
+    /// Makes empty links to `receivers` receivers, each with `channels` queues of capacity `capacity`. `AllocError`
+    /// if there is no memory for them.
     pub(crate) fn new(
         alloc: Global,
         receivers: usize,
@@ -57,7 +57,8 @@ impl Links {
         requires receiver { receiver < length self.old.queues }
         requires channel { channel < length (slice_index_or self.old.queues receiver []) }
         requires room { length (at_two [] self.old.queues receiver channel) < self.old.capacity }
-        ensures { self.new ≡ with_entries self.old receiver channel (at_two [] self.old.queues receiver channel ++ slot ∷ []) }
+        ensures { self.new ≡ with_entries self.old receiver channel
+            (at_two [] self.old.queues receiver channel ++ slot ∷ []) }
     {
         let link = &mut self.links[receiver];
         link.connection.append(channel, slot);
@@ -69,15 +70,16 @@ impl Links {
         requires receiver { receiver < length self.old.queues }
         requires channel { channel < length (slice_index_or self.old.queues receiver []) }
         ensures first { result ≡ slice_get (at_two [] self.old.queues receiver channel) 0 }
-        ensures state { self.new ≡ with_entries self.old receiver channel (drop 1 (at_two [] self.old.queues receiver channel)) }
+        ensures state { self.new ≡ with_entries self.old receiver channel
+            (drop 1 (at_two [] self.old.queues receiver channel)) }
     {
         let link = &mut self.links[receiver];
         link.connection.pop(channel)
     }
 
-    /// Takes the oldest entry of a queue that has one, and counts one more that the receiver has from the channel.
+    /// Takes the oldest entry of a queue that has one, and increments the receiver's borrows from the channel.
     ///
-    /// Looks at the link once.
+    /// Reads the link once.
     #[inline(always)]
     pub(crate) fn take(&mut self, receiver: usize, channel: usize) -> usize
         requires receiver { receiver < length self.old.queues }
@@ -85,7 +87,9 @@ impl Links {
         requires entry { 0 < length (at_two [] self.old.queues receiver channel) }
         requires fits { at_two 0 self.old.borrowed receiver channel + 1 < 2 ^ 64 }
         ensures first { slice_get (at_two [] self.old.queues receiver channel) 0 ≡ Some result }
-        ensures state { self.new ≡ with_count (with_entries self.old receiver channel (drop 1 (at_two [] self.old.queues receiver channel))) receiver channel (at_two 0 self.old.borrowed receiver channel + 1) }
+        ensures state { self.new ≡ with_count (with_entries self.old receiver channel
+            (drop 1 (at_two [] self.old.queues receiver channel))) receiver channel
+            (at_two 0 self.old.borrowed receiver channel + 1) }
     {
         let link = &mut self.links[receiver];
         match link.connection.pop(channel) {
@@ -141,7 +145,7 @@ impl Links {
         link.connection.channels()
     }
 
-    /// Returns whether none of a receiver's channels has an entry. Looks once at each channel.
+    /// Returns whether all queues to a receiver are empty. Reads each channel once.
     #[inline(always)]
     pub(crate) fn is_empty(&self, receiver: usize) -> bool
         requires { receiver < length self.now.queues }
@@ -162,7 +166,7 @@ impl Links {
         link.borrowed[channel]
     }
 
-    /// Returns whether a receiver has one from some channel. Looks once at each channel.
+    /// Returns whether a receiver has a borrow from some channel. Reads each channel once.
     pub(crate) fn has_borrowed(&self, receiver: usize) -> bool
         requires { receiver < length self.now.borrowed }
         ensures { result ≡ list_any (λ n. nat_lt 0 n) (slice_index_or self.now.borrowed receiver []) }
@@ -171,7 +175,7 @@ impl Links {
         is_any_counted(link.borrowed.as_slice())
     }
 
-    /// Counts one less that a receiver has from a channel.
+    /// Decrements a receiver's borrows from a channel.
     #[inline(always)]
     pub(crate) fn end_borrow(&mut self, receiver: usize, channel: usize)
         requires receiver { receiver < length self.old.queues }
@@ -196,14 +200,15 @@ fn is_any_counted(counts: &[usize]) -> bool
     false
 }
 
-/// So many links on which nothing was sent.
+/// Makes `receivers` links without entries and borrows.
 fn empty_links(
     alloc: Global,
     receivers: usize,
     channels: usize,
     capacity: usize,
 ) -> Result<Vec<Link>, AllocError>
-    ensures connections { IfOk result (λ links. All (λ link. link.connection ≡ no_entries channels capacity) links.items) }
+    ensures connections { IfOk result (λ links. All (λ link. link.connection ≡ no_entries channels capacity)
+        links.items) }
     ensures borrowed { IfOk result (λ links. All (λ link. link.borrowed.items ≡ replicate channels 0) links.items) }
     ensures len { IfOk result (λ links. length links.items ≡ receivers) }
 {

@@ -1,4 +1,4 @@
-//! What one port sends from: slots for its messages, and queues of them to each receiver.
+//! The sending half of a port: slots for its messages, and queues of slots to each receiver.
 ghost use Rattle.std.specs.Prelude.{◌≡◌, ℕ, ◌+◌, ◌<◌, ◌≤◌, ◌^◌, ◌↔◌, [], length, map, replicate, slice_get, slice_index, Some, IfOk, IsErrOf, IsTrue, OnErr};
 ghost use Rattle.rr_slots.specs.Families.{takes_len};
 ghost use Rattle.rr_slots.specs.Pools.{nothing_written, written};
@@ -30,14 +30,14 @@ pub struct SenderSize {
     pub capacity: usize,
 }
 
-/// What one port sends from: a fixed number of slots, each with a message, its details and its user header; and to each
-/// receiver a queue of slots for each channel.
+/// The sending half of a port: a fixed number of slots, each with a message, its details and its user header; and for
+/// each receiver a queue of slots for each channel.
 ///
-/// A slot is in use while a handle holds it or it stands in a queue. Contracts count the handles alone: an entry holds its slot
-/// without the caller's doing, and lets it go when it leaves the queue. What stands in a slot is dropped with the last use, so that
-/// a free slot doesn't keep what a payload owns; a user header stays until the slot is loaned again. Only `new`, and `loan` above
-/// the room, take memory. Beside `new`, `has_any`, `has_borrowed` and the calls that clear queues, each call takes a fixed time,
-/// and what it takes to drop elements or a user header. Not in iceoryx2: it stands for the data segment of an iceoryx2 port and its
+/// A slot is in use while a handle holds it or a queue has it. Contracts count only the handles: an entry takes and
+/// releases its hold by itself. The elements of a slot are dropped with the last use, so a free slot owns nothing; a
+/// user header stays until the slot is loaned again. Only `new`, and `loan` above the room, take memory. Except for
+/// `new`, `has_any`, `has_borrowed` and the calls that clear queues, each call takes constant time, plus the time to
+/// drop elements or a user header. Not in iceoryx2: it replaces the data segment of an iceoryx2 port and its
 /// connections.
 #[derive(Drop)]
 pub struct Sender<B: Body, N: Copy, H: Drop> {
@@ -60,9 +60,9 @@ impl<B: Body, N: Copy, H: Drop> Model for Sender<B, N, H> {
 }
 
 impl<B: WriteBody, N: Copy, H: Drop> Sender<B, N, H> {
-    /// Slots that nobody holds and queues with no entry, in the numbers of `size`; each slot has room for `size.room`
-    /// elements, a length that the body's family takes. Each has these details, and a default user header. `Err` where there is
-    /// no memory for them all.
+    /// Makes free slots and empty queues, as many as `size` says; each slot has room for `size.room` elements, a
+    /// length that the body's family takes, these details, and a default user header. `Err` if there is no memory for
+    /// them.
     pub fn new(alloc: Global, size: SenderSize, details: N) -> Result<Self, AllocError>
     where
         H: Default,
@@ -72,7 +72,8 @@ impl<B: WriteBody, N: Copy, H: Drop> Sender<B, N, H> {
         ensures user_headers { IfOk result (λ sender. length sender.user_headers ≡ size.slots) }
         ensures held { IfOk result (λ sender. sender.held ≡ replicate size.slots 0) }
         ensures queues { IfOk result (λ sender. sender.queues ≡ replicate size.receivers (replicate size.channels [])) }
-        ensures borrowed { IfOk result (λ sender. sender.borrowed ≡ replicate size.receivers (replicate size.channels 0)) }
+        ensures borrowed { IfOk result (λ sender. sender.borrowed
+            ≡ replicate size.receivers (replicate size.channels 0)) }
         ensures capacity { IfOk result (λ sender. sender.capacity ≡ size.capacity) }
         ensures room { IfOk result (λ sender. sender.room ≡ size.room) }
     {
@@ -83,12 +84,12 @@ impl<B: WriteBody, N: Copy, H: Drop> Sender<B, N, H> {
         })
     }
 
-    /// Takes a slot that no handle and no entry holds, which a handle holds from now on, for a message of `len` elements, a
-    /// length that the family takes, with these details and user header.
+    /// Acquires a free slot, held by one handle, for a message of `len` elements, a length that the family takes,
+    /// with these details and user header.
     ///
-    /// `Full` exactly if each slot has a handle or an entry. `NoRoom` if `len` is above the room and memory was refused.
-    /// Nothing has changed on either. A slot that entries alone still hold is not free, since its message may be received:
-    /// that is our own.
+    /// `Full` exactly if each slot has a handle or an entry. `NoRoom` if `len` is above the room and memory was
+    /// refused. Nothing has changed on either. A slot that entries alone still hold is not free, since its message
+    /// may be received: that is our own.
     #[inline(always)]
     pub fn loan(&mut self, len: usize, details: N, user_header: H) -> Result<usize, AcquireError>
         requires { IsTrue (takes_len B.family len) }
@@ -113,7 +114,7 @@ impl<B: WriteBody, N: Copy, H: Drop> Sender<B, N, H> {
 }
 
 impl<B: Body, N: Copy, H: Drop> Sender<B, N, H> {
-    /// One more handle holds a slot that a handle holds.
+    /// Adds a handle to a slot that a handle holds.
     #[inline(always)]
     pub fn hold(&mut self, slot: usize)
         requires held { 0 < slice_index self.old.held slot }
@@ -123,7 +124,8 @@ impl<B: Body, N: Copy, H: Drop> Sender<B, N, H> {
         self.pool.hold(slot);
     }
 
-    /// One handle less holds a slot. The slot is free once no handle and no entry holds it, and what stood in it is dropped.
+    /// Removes a handle from a slot. The slot is free once no handle and no entry holds it, and its elements are
+    /// dropped then.
     #[inline(always)]
     pub fn give_back(&mut self, slot: usize)
         requires { 0 < slice_index self.old.held slot }
@@ -132,7 +134,7 @@ impl<B: Body, N: Copy, H: Drop> Sender<B, N, H> {
         self.pool.give_back(slot);
     }
 
-    /// How many slots there are.
+    /// Returns the number of slots.
     #[inline(always)]
     pub fn slots(&self) -> usize
         ensures { result ≡ length self.now.held }

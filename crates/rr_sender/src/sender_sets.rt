@@ -1,4 +1,4 @@
-//! For each queue, the senders from which something may wait in it.
+//! For each queue, the set of senders that may have an entry in it.
 ghost use Rattle.std.specs.Prelude.{◌≡◌, ◌≤◌, ◌+◌, ◌*◌, ◌<◌, ◌/◌, ◌^◌, [], IfNone, IfSome, IsTrue, None, OnErr, OnOk, length};
 ghost use Rattle.rr_sender.specs.BitSets.{HasWord, IsBitChanged, IsFirstFrom, has};
 ghost use Rattle.rr_sender.specs.SenderSets.{HasRoom, IsEven, IsInEach};
@@ -7,10 +7,11 @@ use crate::bit_sets::BitSets;
 use std::alloc::{AllocError, Global};
 use std::marker::Model;
 
-/// Sets of senders, by numbers. A look for the next member of a set takes a look at one word, and then at one for each 4,096 senders.
+/// Sets of senders, by numbers. Finding the next member of a set reads one word, and then one for each 4,096 senders.
 /// Only `reserve` takes memory.
 ///
-/// Beside the words of the sets it keeps, for each set, which of them are not empty. Contracts see the sets alone.
+/// Apart from the words of the sets it keeps, for each set, which of its words are not empty. Contracts see only the
+/// sets.
 #[derive(Drop)]
 pub struct SenderSets {
     members: BitSets,
@@ -40,8 +41,8 @@ impl SenderSets {
         }
     }
 
-    /// Gets room for a sender in each of so many sets: for the next one for which there is none, or one that has it. No set has a
-    /// member more.
+    /// Reserves room in each of `sets` sets for a sender that has room already, or for the next one without. Adds no
+    /// member.
     ///
     /// # Errors
     ///
@@ -76,7 +77,7 @@ impl SenderSets {
         }
     }
 
-    /// Puts a sender into each of so many sets, which have room for it.
+    /// Adds a sender to each of `sets` sets, which have room for it.
     pub fn insert_in_each(&mut self, sets: usize, sender: usize)
         requires there { sender / 64 < length self.old.columns.items }
         requires even { IsEven sets self.old }
@@ -98,7 +99,8 @@ impl SenderSets {
         }
     }
 
-    /// Returns whether a set is known to be empty: one word tells it, where there is room for at most 4,096 senders.
+    /// Returns `true` if the one word that it reads shows that a set is empty, which it does if there is room for at
+    /// most 4,096 senders.
     #[inline(always)]
     pub fn is_known_empty(&self, set: usize) -> bool
         ensures { IsTrue result → IsFirstFrom self.now set 0 None }
@@ -106,8 +108,8 @@ impl SenderSets {
         self.words.columns() == 1 && self.words.word(set, 0) == 0
     }
 
-    /// Returns the first member of a set from a sender on, and, if there is none, the first of all. Takes one look, at one word for each
-    /// 4,096 senders, if the set is empty.
+    /// Returns the first member of a set at or after `from`, wrapping around to the start. If the set is empty, reads
+    /// one word for each 4,096 senders.
     #[inline(always)]
     pub fn next_around(&self, set: usize, from: usize) -> Option<usize>
         ensures member { IfSome result (λ sender. has self.now set sender ≡ 1) }
@@ -128,7 +130,7 @@ impl SenderSets {
         self.members.next_in_word(set, first * 64)
     }
 
-    /// Returns the first member of a set from a sender on.
+    /// Returns the first member of a set at or after `from`.
     #[inline(always)]
     pub fn next_from(&self, set: usize, from: usize) -> Option<usize>
         ensures { IsFirstFrom self.now set from result }

@@ -1,18 +1,19 @@
-//! At which sender each receiver looks first.
+//! The round-robin cursors of receivers.
 ghost use Rattle.std.specs.Prelude.{◌≡◌, ◌≤◌, ◌+◌, ◌<◌, ◌^◌, [], OnErr, OnOk, length};
 ghost use Rattle.rr_sender.specs.Turns.{HasTurn, turn_at};
 
 use std::alloc::{AllocError, Global};
 
-/// At which sender each receiver looks first, on each channel: at the one after that from which it took last. So its receives go
-/// round. A receive may take from any sender that has something, so that no contract of a call speaks of it.
+/// The round-robin cursors: for each receiver and channel, the sender to poll first, which is the one after the
+/// sender served last. A receive may take from any sender with an entry, so no contract of a call mentions the
+/// cursors.
 #[derive(Drop)]
 pub struct Turns {
     pub rows: Vec<Vec<usize>>,
 }
 
 impl Turns {
-    /// Makes turns of no receiver. Takes no memory.
+    /// Makes cursors for no receiver. Takes no memory.
     pub fn new(alloc: Global) -> Self
         ensures { result.rows.items ≡ [] }
     {
@@ -21,7 +22,7 @@ impl Turns {
         }
     }
 
-    /// Lets a receiver look at the first sender first, on each of its channels.
+    /// Sets a receiver's cursors to the first sender, on each of its channels.
     ///
     /// # Errors
     ///
@@ -44,7 +45,7 @@ impl Turns {
         Ok(())
     }
 
-    /// Returns at which sender a receiver looks first on a channel, and 0 if nothing is noted of it.
+    /// Returns the cursor of a receiver on a channel, and 0 if none is kept.
     pub fn at(&self, receiver: usize, channel: usize) -> usize
         ensures { result ≡ turn_at self.now receiver channel }
     {
@@ -57,7 +58,7 @@ impl Turns {
         }
     }
 
-    /// Notes at which sender a receiver looks first on a channel. Does nothing if there is no place for it.
+    /// Sets the cursor of a receiver on a channel. Does nothing if it has no cursor.
     pub fn set(&mut self, receiver: usize, channel: usize, turn: usize)
         ensures { HasTurn self.old receiver channel → turn_at self.new receiver channel ≡ turn }
     {

@@ -14,14 +14,18 @@ use rr_sender::Sender;
 use rr_slots::Body;
 use rr_store::{ServerPort, Store};
 
-/// Returns whether each queue from a client's sender to a server takes one more. Looks at most once at each server.
+/// Returns whether each queue from a client's sender to a server takes one more entry. Reads each server at most
+/// once.
 #[inline(always)]
 pub fn takes_request<QB: Body, QH: Default + Drop, PB: Body, PH: Default + Drop, K: BackpressureFn>(
     store: &Store<QB, QH, PB, PH, K>,
     sender: usize,
 ) -> bool
     requires sender { sender < length (opened store.now).client_senders }
-    requires queues { (i : ℕ) (s : ServerPart K) → slice_get (opened store.now).servers i ≡ Some s → (s.receiver < length (sender_of sender (opened store.now).client_senders).messages.queues) × (0 < length (slice_index_or (sender_of sender (opened store.now).client_senders).messages.queues s.receiver [])) }
+    requires queues { (i : ℕ) (s : ServerPart K) → slice_get (opened store.now).servers i ≡ Some s
+        → (s.receiver < length (sender_of sender (opened store.now).client_senders).messages.queues)
+        × (0 < length (slice_index_or (sender_of sender (opened store.now).client_senders).messages.queues s.receiver
+        [])) }
     ensures { result ≡ not (list_any (is_closed_to (opened store.now) sender) (opened store.now).servers) }
 {
     let messages = store.clients.messages(sender);
@@ -29,7 +33,7 @@ pub fn takes_request<QB: Body, QH: Default + Drop, PB: Body, PH: Default + Drop,
     !is_any_blocked(messages, store.servers.connected(), overflow)
 }
 
-/// Returns whether the queue that is reached from a server's sender on a channel takes one more, if any is reached.
+/// Returns whether the queue that a server's sender reaches on a channel, if any, takes one more entry.
 #[inline(always)]
 pub fn takes_response<
     QB: Body,
@@ -40,7 +44,8 @@ pub fn takes_response<
 >(store: &Store<QB, QH, PB, PH, K>, sender: usize, channel: usize, reach: Option<usize>) -> bool
     requires sender { sender < length (opened store.now).server_senders }
     requires queue { HasQueue (sender_of sender (opened store.now).server_senders).messages channel reach }
-    ensures { result ≡ not (is_blocked_in (sender_of sender (opened store.now).server_senders).messages store.now.limits.enable_safe_overflow_for_responses channel reach) }
+    ensures { result ≡ not (is_blocked_in (sender_of sender (opened store.now).server_senders).messages
+        store.now.limits.enable_safe_overflow_for_responses channel reach) }
 {
     let messages = store.servers.messages(sender);
     let overflow = store.limits.enable_safe_overflow_for_responses;
@@ -54,8 +59,10 @@ fn is_any_blocked<B: Body, N: Copy, H: Drop, K: Drop>(
     servers: &[ServerPort<K>],
     overflow: bool,
 ) -> bool
-    requires inside { (i : ℕ) (s : ServerPort K) → slice_get servers.now i ≡ Some s → s.port.receiver < length messages.now.queues }
-    requires channels { (i : ℕ) (s : ServerPort K) → slice_get servers.now i ≡ Some s → 0 < length (slice_index_or messages.now.queues s.port.receiver []) }
+    requires inside { (i : ℕ) (s : ServerPort K) → slice_get servers.now i ≡ Some s
+        → s.port.receiver < length messages.now.queues }
+    requires channels { (i : ℕ) (s : ServerPort K) → slice_get servers.now i ≡ Some s
+        → 0 < length (slice_index_or messages.now.queues s.port.receiver []) }
     ensures { result ≡ list_any (λ s. is_blocked_at overflow messages.now s.port.receiver) servers.now }
 {
     for server in servers {

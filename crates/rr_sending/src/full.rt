@@ -1,4 +1,4 @@
-//! Which queues take no more, and who decides then.
+//! Full queues, and the decisions about them.
 ghost use Rattle.std.specs.Prelude.{◌≡◌, false, Some, ◌<◌, not, [], length, slice_index_or};
 ghost use Rattle.rr_protocol.specs.Backpressure.{discards};
 ghost use Rattle.rr_store.specs.Ports.{connected_of};
@@ -17,13 +17,15 @@ pub fn is_request_blocked<B: Body, N: Copy, H: Drop>(
     receiver: usize,
     overflow: bool,
 ) -> bool
-    requires { (receiver < length messages.now.queues) × (0 < length (slice_index_or messages.now.queues receiver [])) }
+    requires { (receiver < length messages.now.queues)
+        × (0 < length (slice_index_or messages.now.queues receiver [])) }
     ensures { result ≡ is_blocked_at overflow messages.now receiver }
 {
     !overflow && messages.is_full(receiver, 0)
 }
 
-/// Returns whether the queue that a response reaches is full and may not overflow. Returns `false` if it reaches none.
+/// Returns whether the queue that a response reaches is full and may not overflow. Returns `false` if it reaches
+/// none.
 #[inline(always)]
 pub fn is_response_blocked<B: Body, N: Copy, H: Drop>(
     messages: &Sender<B, N, H>,
@@ -40,7 +42,8 @@ pub fn is_response_blocked<B: Body, N: Copy, H: Drop>(
     }
 }
 
-/// Whether the port passes over the full queue to a receiver: its handler says so, if it has one, or else its strategy.
+/// Returns whether the port skips the full queue to a receiver: its handler decides, if it has one, and otherwise its
+/// strategy.
 pub fn discards<K: BackpressureFn>(port: &Port<K>, receiver: u64) -> bool
     ensures { result ≡ discards K.action (connected_of port.now).port receiver }
 {

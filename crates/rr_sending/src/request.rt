@@ -27,13 +27,13 @@ use rr_slots::Body;
 use rr_store::{HandleEntry, Port, ServerPort, Stage, Store};
 use rr_table::Place;
 
-/// Sends the request that stands in this place to every connected server, and returns how many queues took it. It is a
-/// pending response from then on, and keeps its number.
+/// Sends the request in this place to every connected server, and returns how many queues took it. The request
+/// becomes a pending response, under the same number.
 ///
 /// # Errors
 ///
-/// - `ExceedsMaxActiveRequests` if the client has as many pending responses as it may.
-/// - `UnableToDeliver` if the queue to some server is full, may not overflow, and is not passed over.
+/// - `ExceedsMaxActiveRequests` if the client has its maximum of pending responses.
+/// - `UnableToDeliver` if the queue to some server is full, may not overflow, and is not skipped.
 ///
 /// The request is released then, and no queue has it.
 #[inline(always)]
@@ -74,7 +74,7 @@ pub fn send_request_at<
     Ok(connections)
 }
 
-/// Returns the first reason against a send of the request that stands in this place. Returns `None` if it would be sent.
+/// Returns the first reason that refuses a send of the request in this place, or `None` if it would be sent.
 #[inline(always)]
 pub fn request_refusal_at<
     QB: Body,
@@ -86,14 +86,15 @@ pub fn request_refusal_at<
     requires core { IsCore (opened store.now) }
     requires at { IsAt store.now.table number place }
     requires kind { kind_at (state_of (opened store.now)) number ≡ Some kind.RequestMut }
-    ensures { IsRequestMutAnd (state_of (opened store.now)) number (λ client message. result ≡ request_send_refusal K.action (state_of (opened store.now)) client message) }
+    ensures { IsRequestMutAnd (state_of (opened store.now)) number
+        (λ client message. result ≡ request_send_refusal K.action (state_of (opened store.now)) client message) }
 {
     let entry = store.table.at(number, place);
     let connections = open_connections(store, entry.sender);
     request_send_limit(store, entry.sender, connections)
 }
 
-/// Returns to how many connected servers the queue from a sender takes one more.
+/// Returns how many connected servers' queues from a sender take one more entry.
 #[inline(always)]
 pub fn open_connections<
     QB: Body,
@@ -103,7 +104,10 @@ pub fn open_connections<
     K: BackpressureFn,
 >(store: &Store<QB, QH, PB, PH, K>, sender: usize) -> usize
     requires sender { sender < length (opened store.now).client_senders }
-    requires queues { (i : ℕ) (s : ServerPart K) → slice_get (opened store.now).servers i ≡ Some s → (s.receiver < length (sender_of sender (opened store.now).client_senders).messages.queues) × (0 < length (slice_index_or (sender_of sender (opened store.now).client_senders).messages.queues s.receiver [])) }
+    requires queues { (i : ℕ) (s : ServerPart K) → slice_get (opened store.now).servers i ≡ Some s
+        → (s.receiver < length (sender_of sender (opened store.now).client_senders).messages.queues)
+        × (0 < length (slice_index_or (sender_of sender (opened store.now).client_senders).messages.queues s.receiver
+        [])) }
     ensures { result ≡ count_by (is_open_to (opened store.now) sender) (opened store.now).servers }
 {
     let overflow = store.limits.enable_safe_overflow_for_requests;
@@ -112,8 +116,9 @@ pub fn open_connections<
     open_count(messages, servers, overflow)
 }
 
-/// Returns the first reason against one more request from a sender, of which so many queues take one more: its client has
-/// too many pending responses, or the queue to some server is full, may not overflow, and is not passed over.
+/// Returns the first reason that refuses to send one more request from a sender, if `connections` queues would take
+/// it: its client has its maximum of pending responses, or the queue to a server is full, may not overflow, and is
+/// not skipped.
 #[inline(always)]
 pub fn request_send_limit<
     QB: Body,
@@ -124,11 +129,22 @@ pub fn request_send_limit<
 >(store: &Store<QB, QH, PB, PH, K>, sender: usize, connections: usize) -> Option<RequestSendError>
     requires sender { sender < length store.now.clients.senders }
     requires rising { IsRising (λ c. c.port.id) store.now.clients.ports }
-    requires present { IsSome (position (λ c. c.port.id == (sender_of sender store.now.clients.senders).owner) store.now.clients.ports) }
-    requires queues { (i : ℕ) (s : ServerPart K) → slice_get (opened store.now).servers i ≡ Some s → (s.receiver < length (sender_of sender (opened store.now).client_senders).messages.queues) × (0 < length (slice_index_or (sender_of sender (opened store.now).client_senders).messages.queues s.receiver [])) }
+    requires present { IsSome (position (λ c. c.port.id == (sender_of sender store.now.clients.senders).owner)
+        store.now.clients.ports) }
+    requires queues { (i : ℕ) (s : ServerPart K) → slice_get (opened store.now).servers i ≡ Some s
+        → (s.receiver < length (sender_of sender (opened store.now).client_senders).messages.queues)
+        × (0 < length (slice_index_or (sender_of sender (opened store.now).client_senders).messages.queues s.receiver
+        [])) }
     requires connections { connections ≡ count_by (is_open_to (opened store.now) sender) (opened store.now).servers }
-    ensures many { store.now.limits.max_active_requests_per_client ≤ (sender_of sender store.now.clients.senders).pendings → result ≡ Some limit.ExceedsMaxActiveRequests }
-    ensures few { (i : ℕ) (c : ClientPort K) → position (λ c. c.port.id == (sender_of sender store.now.clients.senders).owner) store.now.clients.ports ≡ Some i → slice_get store.now.clients.ports i ≡ Some c → (sender_of sender store.now.clients.senders).pendings < store.now.limits.max_active_requests_per_client → result ≡ (if list_any (λ s. is_closed_to (opened store.now) sender s && not (discards K.action (client_part c).port s.port.id)) (opened store.now).servers then Some (limit.SendError send.UnableToDeliver) else None) }
+    ensures many { store.now.limits.max_active_requests_per_client
+        ≤ (sender_of sender store.now.clients.senders).pendings → result ≡ Some limit.ExceedsMaxActiveRequests }
+    ensures few { (i : ℕ) (c : ClientPort K) → position
+        (λ c. c.port.id == (sender_of sender store.now.clients.senders).owner) store.now.clients.ports ≡ Some i
+        → slice_get store.now.clients.ports i ≡ Some c
+        → (sender_of sender store.now.clients.senders).pendings < store.now.limits.max_active_requests_per_client
+        → result ≡ (if list_any (λ s. is_closed_to (opened store.now) sender s && not
+        (discards K.action (client_part c).port s.port.id)) (opened store.now).servers then Some
+        (limit.SendError send.UnableToDeliver) else None) }
 {
     if store.limits.max_active_requests_per_client <= store.clients.pendings(sender) {
         return Some(RequestSendError::ExceedsMaxActiveRequests);
@@ -146,7 +162,7 @@ pub fn request_send_limit<
     None
 }
 
-/// Returns whether the queue to some server is full, may not overflow, and is not passed over.
+/// Returns whether the queue to some server is full, may not overflow, and is not skipped.
 #[inline(always)]
 fn is_refused<B: Body, N: Copy, H: Drop, K: BackpressureFn>(
     messages: &Sender<B, N, H>,
@@ -154,9 +170,12 @@ fn is_refused<B: Body, N: Copy, H: Drop, K: BackpressureFn>(
     servers: &[ServerPort<K>],
     overflow: bool,
 ) -> bool
-    requires inside { (i : ℕ) (s : ServerPort K) → slice_get servers.now i ≡ Some s → s.port.receiver < length messages.now.queues }
-    requires channels { (i : ℕ) (s : ServerPort K) → slice_get servers.now i ≡ Some s → 0 < length (slice_index_or messages.now.queues s.port.receiver []) }
-    ensures { result ≡ list_any (is_refused_at K.action (connected_of port.now).port overflow messages.now) servers.now }
+    requires inside { (i : ℕ) (s : ServerPort K) → slice_get servers.now i ≡ Some s
+        → s.port.receiver < length messages.now.queues }
+    requires channels { (i : ℕ) (s : ServerPort K) → slice_get servers.now i ≡ Some s
+        → 0 < length (slice_index_or messages.now.queues s.port.receiver []) }
+    ensures { result ≡ list_any (is_refused_at K.action (connected_of port.now).port overflow messages.now)
+        servers.now }
 {
     for server in servers {
         if is_request_blocked(messages, server.port.receiver, overflow)
@@ -168,15 +187,17 @@ fn is_refused<B: Body, N: Copy, H: Drop, K: BackpressureFn>(
     false
 }
 
-/// Returns to how many servers the queue takes one more.
+/// Returns how many servers' queues take one more entry.
 #[inline(always)]
 fn open_count<B: Body, N: Copy, H: Drop, K: Drop>(
     messages: &Sender<B, N, H>,
     servers: &[ServerPort<K>],
     overflow: bool,
 ) -> usize
-    requires inside { (i : ℕ) (s : ServerPort K) → slice_get servers.now i ≡ Some s → s.port.receiver < length messages.now.queues }
-    requires channels { (i : ℕ) (s : ServerPort K) → slice_get servers.now i ≡ Some s → 0 < length (slice_index_or messages.now.queues s.port.receiver []) }
+    requires inside { (i : ℕ) (s : ServerPort K) → slice_get servers.now i ≡ Some s
+        → s.port.receiver < length messages.now.queues }
+    requires channels { (i : ℕ) (s : ServerPort K) → slice_get servers.now i ≡ Some s
+        → 0 < length (slice_index_or messages.now.queues s.port.receiver []) }
     ensures { result ≡ count_by (λ s. not (is_blocked_at overflow messages.now s.port.receiver)) servers.now }
 {
     let mut count = 0;

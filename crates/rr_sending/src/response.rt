@@ -22,13 +22,13 @@ use rr_slots::Body;
 use rr_store::{ResponseDetails, Store};
 use rr_table::Place;
 
-/// Sends the response that stands in this place to its request, if that is still a pending response of a connected client,
-/// and releases the handle. Else the response is released alone. The server leaves if nothing else of it lives.
+/// Sends the response in this place to its request, if that is still pending at a connected client, and releases the
+/// handle. Otherwise the response is only released. The server leaves if nothing else of it lives.
 ///
 /// # Errors
 ///
-/// - `UnableToDeliver` if the queue to the client's channel is full, may not overflow, and is not passed over. The response is
-///   released then too, and the queue is unchanged.
+/// - `UnableToDeliver` if the queue to the client's channel is full, may not overflow, and is not skipped. The
+///   response is released then too, and the queue is unchanged.
 #[inline(always)]
 pub fn send_response_at<
     QB: Body,
@@ -61,7 +61,7 @@ pub fn send_response_at<
     Ok(())
 }
 
-/// Returns whether a send of the response that stands in this place would be refused.
+/// Returns whether a send of the response in this place would be refused.
 #[inline(always)]
 pub fn is_response_refused_at<
     QB: Body,
@@ -73,7 +73,8 @@ pub fn is_response_refused_at<
     requires core { IsCore (opened store.now) }
     requires at { IsAt store.now.table number place }
     requires kind { kind_at (state_of (opened store.now)) number ≡ Some kind.ResponseMut }
-    ensures { IsResponseMutAnd (state_of (opened store.now)) number (λ server message. result ≡ is_response_refused K.action (state_of (opened store.now)) server message) }
+    ensures { IsResponseMutAnd (state_of (opened store.now)) number
+        (λ server message. result ≡ is_response_refused K.action (state_of (opened store.now)) server message) }
 {
     let entry = store.table.at(number, place);
     let details = store.servers.details(entry.sender, entry.slot);
@@ -81,7 +82,7 @@ pub fn is_response_refused_at<
     is_response_refused(store, entry.sender, details, reach)
 }
 
-/// Returns whether the queue that a response reaches is full, may not overflow, and is not passed over.
+/// Returns whether the queue that a response reaches is full, may not overflow, and is not skipped.
 #[inline(always)]
 pub fn is_response_refused<
     QB: Body,
@@ -97,9 +98,15 @@ pub fn is_response_refused<
 ) -> bool
     requires sender { sender < length store.now.servers.senders }
     requires rising { IsRising (λ s. s.port.id) store.now.servers.ports }
-    requires present { IsSome (position (λ s. s.port.id == (sender_of sender store.now.servers.senders).owner) store.now.servers.ports) }
+    requires present { IsSome (position (λ s. s.port.id == (sender_of sender store.now.servers.senders).owner)
+        store.now.servers.ports) }
     requires queue { HasQueue (sender_of sender store.now.servers.senders).messages details.channel reach }
-    ensures refused { (i : ℕ) (s : ServerPort K) → position (λ s. s.port.id == (sender_of sender store.now.servers.senders).owner) store.now.servers.ports ≡ Some i → slice_get store.now.servers.ports i ≡ Some s → result ≡ (is_blocked_in (sender_of sender store.now.servers.senders).messages store.now.limits.enable_safe_overflow_for_responses details.channel reach && not (discards K.action (connected_of s.port).port details.client)) }
+    ensures refused { (i : ℕ) (s : ServerPort K) → position
+        (λ s. s.port.id == (sender_of sender store.now.servers.senders).owner) store.now.servers.ports ≡ Some i
+        → slice_get store.now.servers.ports i ≡ Some s
+        → result ≡ (is_blocked_in (sender_of sender store.now.servers.senders).messages
+        store.now.limits.enable_safe_overflow_for_responses details.channel reach && not
+        (discards K.action (connected_of s.port).port details.client)) }
 {
     let messages = store.servers.messages(sender);
     let overflow = store.limits.enable_safe_overflow_for_responses;

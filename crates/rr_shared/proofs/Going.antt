@@ -5,13 +5,13 @@ use Rattle.rr_slots.specs.declared.family.Family.{Family}
 use Rattle.rr_protocol.specs.declared.limits.Limits.{Limits}
 use Rattle.rr_protocol.specs.declared.settings.BackpressureAction.{BackpressureAction}
 use Rattle.rr_protocol.specs.State.{State}
-use Rattle.rr_commands.specs.declared.command.Command.{Command}
-use Rattle.rr_commands.specs.declared.reply.Reply.{Reply}
-use Rattle.rr_commands.specs.AnswerRule.{Event}
-use Rattle.rr_commands.specs.Step.{Step}
-use Rattle.rr_commands.specs.Continuing.{LeadsTo}
-use Rattle.rr_commands.proofs.Continuing.{leads_on}
-use Rattle.rr_runner.specs.Memory.{MayLackMemory}
+use Rattle.rr_protocol.specs.declared.command.Command.{Command}
+use Rattle.rr_protocol.specs.declared.reply.Reply.{Reply}
+use Rattle.rr_protocol.specs.AnswerRule.{Event}
+use Rattle.rr_protocol.specs.Step.{Step}
+use Rattle.rr_protocol.specs.Continuing.{LeadsTo}
+use Rattle.rr_protocol.proofs.Continuing.{leads_on}
+use Rattle.rr_run.specs.Memory.{MayLackMemory}
 use Rattle.rr_shared.specs.Histories.{without_callers, MayCopy}
 
 module _ {T H K : Type 0} (action : K → ℕ → ℕ → BackpressureAction) (IsDefaultElement : T → Type 0) (IsDefaultHeader : H → Type 0)

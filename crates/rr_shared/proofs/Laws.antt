@@ -8,9 +8,9 @@ use Rattle.std.proofs.lemmas.List.Sums.{sum_by-cons}
 use mathlib.Core.List.{IsPrefix}
 use Rattle.rr_slots.specs.declared.family.Family.{Family}
 use Rattle.rr_protocol.specs.declared.limits.Limits.{Limits}
-use Rattle.rr_commands.specs.declared.command.Command.{Command}
-use Rattle.rr_commands.specs.declared.reply.Reply.{Reply}
-use Rattle.rr_commands.specs.AnswerRule.{Event, KeepsAnswerRule, ReceivesOnce, is_active, is_loan, is_response, is_sent, is_sent_copy, occur_in_order}
+use Rattle.rr_protocol.specs.declared.command.Command.{Command}
+use Rattle.rr_protocol.specs.declared.reply.Reply.{Reply}
+use Rattle.rr_protocol.specs.AnswerRule.{Event, KeepsAnswerRule, ReceivesOnce, is_active, is_loan, is_response, is_sent, is_sent_copy, occur_in_order}
 use Rattle.rr_laws.specs.Unreduced.{asked_in, is_out_of_memory}
 use Rattle.rr_laws.specs.Whole.{HasWholePool, NeverRunsDry}
 use Rattle.rr_log.specs.Entries.{entries_of, Follows}

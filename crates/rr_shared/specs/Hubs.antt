@@ -1,4 +1,4 @@
--- Which hub a type belongs to.
+-- The identity of a hub, as a type parameter.
 use Rattle.std.specs.Prelude.{◌≡◌, ℕ, Result, Ok, Err, Some, None}
 use base.Stored.{Coded, coded×, coded_ℕ, coded_via}
 use Rattle.rr_protocol.specs.declared.limits.Limits.{Limits}
@@ -23,5 +23,6 @@ name_code =
 
 -- a hub with these limits and this node id is opened, unless the limits are refused
 abbrev pub OpensHub : Limits → ℕ → Result Name HubCreateError → Type 0
-OpensHub limits node_id (Ok opened) = (hub_refusal limits ≡ None) × (opened.limits ≡ limits) × (opened.node_id ≡ node_id)
+OpensHub limits node_id (Ok opened) =
+    (hub_refusal limits ≡ None) × (opened.limits ≡ limits) × (opened.node_id ≡ node_id)
 OpensHub limits node_id (Err error) = hub_refusal limits ≡ Some error

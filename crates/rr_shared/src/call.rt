@@ -1,14 +1,15 @@
 //! A command with its reply, for proofs alone.
 ghost use Rattle.std.specs.Prelude.{◌≡◌};
 
-use rr_commands::{Command, Reply};
+use rr_protocol::{Command, Reply};
 use std::marker::Model;
 use std::mem::ManuallyDrop;
 use std::snapshot::Snapshot;
 
 /// A command and its reply, as proofs see them. It has no bytes.
 ///
-/// Dropping a snapshot asks that what it shows has a size, which no bound of `T` and `H` gives. So none is dropped.
+/// Dropping a snapshot requires that the captured value has a size, which no bound of `T` and `H` gives. So none is
+/// dropped.
 #[derive(Drop)]
 pub struct Call<T: Copy, H: Copy, K> {
     command: ManuallyDrop<Snapshot<Command<T, H, K>>>,
@@ -16,7 +17,7 @@ pub struct Call<T: Copy, H: Copy, K> {
 }
 
 impl<T: Copy, H: Copy, K> Model for Call<T, H, K> {
-    ghost use Rattle.rr_commands.specs.AnswerRule.{Event};
+    ghost use Rattle.rr_protocol.specs.AnswerRule.{Event};
 
     ghost Value = { Event T H K };
 

@@ -1,14 +1,13 @@
-//! What lies under the lock.
+//! The value under the lock.
 ghost use Rattle.std.specs.Prelude.{◌≡◌};
 ghost use Rattle.rr_shared.specs.Histories.{history_of, IsLegal, MakesCall, MayCopy, without_callers};
 
 use crate::call::Call;
 use crate::naming::Naming;
 use crate::seat::Seat;
-use rr_commands::{Command, Reply};
 use rr_log::{Log, Pen};
-use rr_protocol::BackpressureFn;
-use rr_runner::Runner;
+use rr_protocol::{BackpressureFn, Command, Reply};
+use rr_run::Runner;
 use rr_slots::WriteBody;
 use std::marker::{Model, PhantomData};
 use std::snapshot::Snapshot;
@@ -35,8 +34,8 @@ impl<
     K: BackpressureFn,
 > Model for Desk<N, T, B, H, K> {
     ghost use Rattle.std.specs.Prelude.{◌≡◌, ℕ, List, None};
-    ghost use Rattle.rr_commands.specs.AnswerRule.{Event};
-    ghost use Rattle.rr_commands.specs.Continuing.{LeadsTo};
+    ghost use Rattle.rr_protocol.specs.AnswerRule.{Event};
+    ghost use Rattle.rr_protocol.specs.Continuing.{LeadsTo};
     ghost use Rattle.rr_protocol.specs.Limits.{hub_refusal};
     ghost use Rattle.rr_shared.specs.Histories.{without_callers};
 
@@ -44,7 +43,8 @@ impl<
 
     ghost view = { λ d. d.pen.entries };
 
-    ghost invariant = { λ d. (d.pen.log_id ≡ N.log_id) × LeadsTo K.action T.is_default H.is_default B.family N.limits N.node_id (without_callers d.pen.entries) d.runner × (hub_refusal N.limits ≡ None) };
+    ghost invariant = { λ d. (d.pen.log_id ≡ N.log_id) × LeadsTo K.action T.is_default H.is_default B.family N.limits
+        N.node_id (without_callers d.pen.entries) d.runner × (hub_refusal N.limits ≡ None) };
 }
 
 impl<
@@ -54,7 +54,7 @@ impl<
     H: Copy + Default,
     K: BackpressureFn,
 > Desk<N, T, B, H, K> {
-    /// Does nothing. Its clause tells of what is kept: the log is legal.
+    /// Does nothing. Its clause states the invariant: the log is legal.
     pub(crate) fn is_legal(&self)
         ensures { IsLegal K.action T.is_default H.is_default B.family N.limits N.node_id (without_callers self.now) }
     {

@@ -1,5 +1,5 @@
-//! A hub that threads share, with a history that exists in proofs alone: a caller knows of each reply, as soon as it has it, that it
-//! stands in one legal history of all threads. Nothing is recorded.
+//! A hub that threads share, with a history that exists in proofs alone: a caller that has a reply knows that it is
+//! part of one legal history of all threads. Nothing is recorded at run time.
 #![tactic(auto)]
 
 mod call;
@@ -13,6 +13,6 @@ mod shared_hub;
 pub use finished::Finished;
 pub use naming::Naming;
 pub use opened::Opened;
-pub use rr_runner::{Command, Elements, Reply};
+pub use rr_run::{Command, Elements, Reply};
 pub use seat::Seat;
 pub use shared_hub::SharedHub;

@@ -8,37 +8,14 @@ use crate::naming::Naming;
 use crate::shared_hub::SharedHub;
 use rr_log::{Log, Pen};
 use rr_protocol::{BackpressureFn, HubCreateError, Limits, UniqueNodeId};
-use rr_runner::Runner;
+use rr_run::Runner;
 use rr_slots::WriteBody;
 use std::alloc::Global;
 use std::marker::{Model, PhantomData};
 use std::sync::Mutex;
 
-/// A hub without ports and with an empty history, which has no name yet. Contracts see which log it has, its limits and its node id.
-/// Not in iceoryx2.
-///
-/// # Examples
-///
-/// Makes a hub, and gives it to the two threads of the example of `SharedHub`, which know it as `Brand`
-/// (`rr_test_runs::tests::hubs::threads`):
-///
-/// ```
-/// use rr_protocol::{Limits, NoHandler, UniqueNodeId};
-/// use rr_shared::Opened;
-/// use std::marker::Brand;
-/// use std::test::Fail;
-///
-/// type OpenedHub = Opened<u64, Option<u64>, u64, NoHandler>;
-///
-/// const LIMITS: Limits = Limits { max_clients: 8, ..Limits::SMALLEST };
-///
-/// fn two_threads_get_two_numbers(rt: HostRuntime) -> Result<(), Fail> {
-///     let opened = OpenedHub::new(rt.alloc(), LIMITS, UniqueNodeId(3))?;
-///     let numbers = two_create::<Brand, _>(&rt, opened);
-///     assert!(rt; matches!(numbers, (Some(0), Some(1)) | (Some(1), Some(0))));
-///     Ok(())
-/// }
-/// ```
+/// A hub without ports and with an empty history, which has no name yet. Contracts see its log, its limits and its
+/// node id. Not in iceoryx2.
 #[derive(Drop)]
 pub struct Opened<T: Copy + Default, B: WriteBody<Item = T>, H: Copy + Default, K: BackpressureFn> {
     limits: Limits,
@@ -62,7 +39,8 @@ impl<T: Copy + Default, B: WriteBody<Item = T>, H: Copy + Default, K: Backpressu
 
     ghost view = { λ o. name o.log o.limits o.node_id.0 };
 
-    ghost invariant = { λ o. (hub_refusal o.limits ≡ None) × (o.runner ≡ empty_hub o.limits o.node_id.0) × (o.pen ≡ whole o.log []) };
+    ghost invariant = { λ o. (hub_refusal o.limits ≡ None) × (o.runner ≡ empty_hub o.limits o.node_id.0)
+        × (o.pen ≡ whole o.log []) };
 }
 
 impl<T: Copy + Default, B: WriteBody<Item = T>, H: Copy + Default, K: BackpressureFn> Opened<
@@ -71,12 +49,13 @@ impl<T: Copy + Default, B: WriteBody<Item = T>, H: Copy + Default, K: Backpressu
     H,
     K,
 > {
-    /// Makes a hub without ports, with an empty history. Takes no memory, so `OutOfMemory` never comes. Not in iceoryx2.
+    /// Makes a hub without ports, with an empty history. Takes no memory, so it never returns `OutOfMemory`. Not in
+    /// iceoryx2.
     ///
     /// # Errors
     ///
     /// - `ZeroLimit` if a limit is below its least value.
-    /// - `LimitsTooLarge` if a worst-case size is more than a `usize` counts.
+    /// - `LimitsTooLarge` if a worst-case size overflows a `usize`.
     pub fn new(alloc: Global, limits: Limits, node_id: UniqueNodeId) -> Result<Self, HubCreateError>
         ensures { OpensHub limits node_id.0 result }
     {
@@ -91,7 +70,7 @@ impl<T: Copy + Default, B: WriteBody<Item = T>, H: Copy + Default, K: Backpressu
         })
     }
 
-    /// Returns the hub under a name, which its caller picks. Not in iceoryx2.
+    /// Returns the hub under a name of the caller's choice. Not in iceoryx2.
     pub fn named<N: Naming>(self) -> SharedHub<N, T, B, H, K>
         requires log { self.log_id ≡ N.log_id }
         requires limits { self.limits ≡ N.limits }

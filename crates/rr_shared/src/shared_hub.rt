@@ -1,7 +1,7 @@
 //! A hub that threads share.
 ghost use Rattle.std.specs.Prelude.{◌≡◌, ◌≢◌, ◌⊎◌, ◌∷◌, ◌++◌, [], ℕ};
 ghost use mathlib.Core.List.{IsPrefix};
-ghost use Rattle.rr_commands.specs.AnswerRule.{KeepsAnswerRule};
+ghost use Rattle.rr_protocol.specs.AnswerRule.{KeepsAnswerRule};
 ghost use Rattle.rr_laws.specs.Whole.{NeverRunsDry};
 ghost use Rattle.rr_shared.specs.Histories.{history_of, IsLegal, MakesCall, MayCopy};
 ghost use Rattle.rr_shared.specs.Laws.{calls_of, FindsRoom, HasReceived, IsAnswered};
@@ -10,9 +10,8 @@ use crate::call::Call;
 use crate::desk::Desk;
 use crate::naming::Naming;
 use crate::seat::Seat;
-use rr_commands::{Command, Reply};
 use rr_log::Log;
-use rr_protocol::{BackpressureFn, Limits, UniqueNodeId};
+use rr_protocol::{BackpressureFn, Command, Limits, Reply, UniqueNodeId};
 use rr_slots::WriteBody;
 use std::marker::{Model, PhantomData};
 use std::sync::{Mutex, Wait};
@@ -23,7 +22,8 @@ use std::sync::{Mutex, Wait};
 ///
 /// # Examples
 ///
-/// Creates a client in each of two threads, and compares what their seats have seen then (`rr_test_runs::tests::hubs::threads`):
+/// Creates a client in each of two threads, and compares what their seats have seen then
+/// (`rr_test_runs::tests::hubs::threads`):
 ///
 /// ```
 /// ghost use Rattle.std.specs.Prelude.{◌≡◌};
@@ -96,7 +96,8 @@ impl<
 
     ghost view = { λ h. tt };
 
-    ghost invariant = { λ h. (h.log ≡ N.log_id) × (h.limits ≡ N.limits) × (h.node_id.0 ≡ N.node_id) × (hub_refusal N.limits ≡ None) };
+    ghost invariant = { λ h. (h.log ≡ N.log_id) × (h.limits ≡ N.limits) × (h.node_id.0 ≡ N.node_id)
+        × (hub_refusal N.limits ≡ None) };
 }
 
 impl<
@@ -120,7 +121,7 @@ impl<
         self.node_id
     }
 
-    /// Makes a seat, which has seen nothing. There may be any number of them. Takes no lock. Not in iceoryx2.
+    /// Makes a seat with an empty history. A hub may have any number of seats. Takes no lock. Not in iceoryx2.
     pub fn seat(&self) -> Seat<N, T, H, K>
         ensures { history_of result ≡ [] }
     {
@@ -132,11 +133,11 @@ impl<
 
     /// Carries out a command, and returns its reply. Waits for the lock, and for nothing else.
     ///
-    /// What the seat has seen goes on by calls of others, and then by this call with this reply. It is a legal history of the message
-    /// machine. It keeps the answer rule: a response reaches only the request that it answers, at most once, and in the order in
-    /// which its server sent it. No loan from a pool of the worst-case size, up to the initial slice length, was answered
-    /// `OutOfMemory`. `NoMemory` is returned for `Payload` alone, and never in the typed family. Not in iceoryx2, which has the calls
-    /// alone.
+    /// The seat's history is extended by calls of others, and then by this call with this reply. It is a legal
+    /// history of the message machine. It keeps the answer rule: a response reaches only the request that it answers,
+    /// at most once, and in the order in which its server sent it. No loan from a pool of the worst-case size, up to
+    /// the initial slice length, was answered `OutOfMemory`. `NoMemory` is returned for `Payload` alone, and never in
+    /// the typed family. Not in iceoryx2, which has the calls alone.
     pub fn submit<R: Wait>(
         &self,
         rt: &R,
@@ -157,8 +158,8 @@ impl<
         self.inside.lock(rt).apply(&self.log, seat, command)
     }
 
-    /// Compares what two seats have seen: the history of one of them begins that of the other. They are two callers, who received no
-    /// response in common. Changes nothing, and takes no lock. Not in iceoryx2.
+    /// Proves that the history of one of two seats is a prefix of the other's, and that the seats are two callers
+    /// that received no response in common. Changes nothing, and takes no lock. Not in iceoryx2.
     pub fn compare(&self, one: &mut Seat<N, T, H, K>, other: &mut Seat<N, T, H, K>)
         ensures same { (one.new ≡ one.old) × (other.new ≡ other.old) }
         ensures begins { IsPrefix one.new.1 other.new.1 ⊎ IsPrefix other.new.1 one.new.1 }

@@ -3,7 +3,7 @@ use Rattle.std.proofs.Common.{◌≡◌, ℕ, List, [], ◌∷◌, ◌++◌, Opt
 use Rattle.std.specs.Prelude.{true, option_and_then, IsSomeAnd}
 use Rattle.std.specs.Borrow.{Bor}
 use Rattle.std.specs.Fn.{Once}
-use Rattle.rr_map_laws.proofs.MapLaws.{get-insert_same}
+use Rattle.rr_table.proofs.MapLaws.{get-insert_same}
 use Rattle.rr_protocol.specs.declared.settings.BackpressureAction.{BackpressureAction}
 use Rattle.rr_protocol.specs.declared.settings.ClientSettings.{ClientSettings}
 use Rattle.rr_protocol.specs.declared.settings.ServerSettings.{ServerSettings}
@@ -21,9 +21,9 @@ use Rattle.rr_protocol.specs.Releases.{after_release}
 use Rattle.rr_protocol.specs.Sends.{SendsRequest, SendsResponse}
 use Rattle.rr_protocol.specs.State.{State, active_at, client_at, handle_at, with_changed}
 use Rattle.rr_protocol.specs.Writing.{after_init, with_elements, with_request_content, with_response_content}
-use Rattle.rr_commands.specs.declared.command.Command.{Command}
-use Rattle.rr_commands.specs.declared.reply.Reply.{Reply}
-use Rattle.rr_commands.specs.PortRun.{KeepsAsked, PortEvent, PortRun, PortStep}
+use Rattle.rr_protocol.specs.declared.command.Command.{Command}
+use Rattle.rr_protocol.specs.declared.reply.Reply.{Reply}
+use Rattle.rr_protocol.specs.PortRun.{KeepsAsked, PortEvent, PortRun, PortStep}
 use Rattle.rr_laws.proofs.Opening.{open_active, some_and}
 use Rattle.rr_ports.specs.Factories.{CreatesClientBy, CreatesServerBy, Factory}
 use Rattle.rr_ports.specs.Facts.{Keeps}
@@ -39,6 +39,7 @@ use Rattle.rr_shared_ports.specs.declared.error.FinishError.{FinishError}
 use Rattle.rr_shared_ports.specs.declared.error.FinishError.TheVariants.{NoResponse, NoServer, Receive}
 use Rattle.rr_shared_ports.specs.Exchanges.{AnswersWith, Finishes, ReceivesNone}
 use Rattle.rr_shared_ports.specs.Leading.{LeadsTo, Steps}
+use Rattle.rr_shared_ports.specs.Waits.{ReceivesOrEnds}
 
 -- what a server received is an active request
 received_active : {Q QH P PH K : Type 0} (old new : State Q QH P PH K) (server k : ℕ) → ReceivesRequest old server (Ok (Some k)) new
@@ -230,6 +231,13 @@ module _ {Q QH P PH K : Type 0} (action : K → ℕ → ℕ → BackpressureActi
       leads_on old copies.0 new (response_received old copies.0 n (Ok (Some copies.1)) copies.2) (released copies.0 new copies.1 copies.4)
   response_copied old new n (Ok None) copies = response_received old new n (Ok None) copies
   response_copied old new n (Err error) copies = response_received old new n (Err error) copies
+
+  pub received_or_ended : (old new : State Q QH P PH K) (n : ℕ) (result : Result (Option ℕ) (Option ReceiveError)) → ReceivesOrEnds old n result new
+      → LeadsTo action D E old new
+  received_or_ended old new n (Ok (Some response)) receives = response_received old new n (Ok (Some response)) receives
+  received_or_ended old new n (Ok None) ends = response_received old new n (Ok None) ends.0
+  received_or_ended old new n (Err None) none = response_received old new n (Ok None) none
+  received_or_ended old new n (Err (Some error)) refused = response_received old new n (Err error) refused
 
   pub request_copied : (old new : State Q QH P PH K) (n : ℕ) (result : Result (Option Q) ReceiveError) → HearsCopy old n result new
       → LeadsTo action D E old new

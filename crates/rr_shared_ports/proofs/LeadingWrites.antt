@@ -9,7 +9,7 @@ use Rattle.rr_protocol.specs.declared.error.SendError.{SendError}
 use Rattle.rr_protocol.specs.Messages.{Content}
 use Rattle.rr_protocol.specs.State.{State, with_changed}
 use Rattle.rr_protocol.specs.Writing.{after_init, filled, with_element, with_request_content, with_response_content}
-use Rattle.rr_commands.specs.PortRun.{KeepsAsked}
+use Rattle.rr_protocol.specs.PortRun.{KeepsAsked}
 use Rattle.rr_ports.specs.declared.try_send.Refused.{Refused}
 use Rattle.rr_ports.specs.Draining.{Drains}
 use Rattle.rr_ports.specs.Filling.{FillsRequest, FillsResponse}

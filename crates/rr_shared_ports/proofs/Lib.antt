@@ -1,3 +1,4 @@
+pub mod Words
 pub mod Leading
 pub mod LeadingWrites
 pub mod Readings

@@ -6,10 +6,10 @@ use Rattle.std.specs.Prelude.{IfOk, IfSome}
 use Rattle.rr_protocol.specs.declared.limits.Limits.{Limits}
 use Rattle.rr_protocol.specs.declared.error.ReceiveError.{ReceiveError}
 use Rattle.rr_protocol.specs.Receives.{ReceivesResponse}
-use Rattle.rr_commands.specs.declared.command.Command.{Command}
-use Rattle.rr_commands.specs.declared.reply.Reply.{Reply}
-use Rattle.rr_commands.specs.AnswerRule.{KeepsAnswerRule}
-use Rattle.rr_commands.specs.PortRun.{PortEvent, PortRun}
+use Rattle.rr_protocol.specs.declared.command.Command.{Command}
+use Rattle.rr_protocol.specs.declared.reply.Reply.{Reply}
+use Rattle.rr_protocol.specs.AnswerRule.{KeepsAnswerRule}
+use Rattle.rr_protocol.specs.PortRun.{PortEvent, PortRun}
 use Rattle.rr_shared_ports.specs.Leading.{IsHistory, LeadsTo, Reads, Steps, WasAnswered, calls_in}
 use Rattle.rr_shared_ports.specs.Turns.{MakesCall, Seated, state_after}
 use Rattle.rr_shared_ports.proofs.Leading.{joined}

@@ -1,4 +1,4 @@
--- What a seat has seen of a hub of ports, and what a call makes of it.
+-- The history that a seat has seen of a hub of ports, and the effect of a call on it.
 use Rattle.std.specs.Prelude.{◌≡◌, ℕ, List, [], ◌∷◌, ◌++◌, Some, None, Result, Ok, Err}
 use base.Stored.{Coded, coded×, coded_ℕ, coded_via}
 use Rattle.rr_protocol.specs.declared.limits.Limits.{Limits}
@@ -17,7 +17,8 @@ pub record Name : Type 0 where
   pub node_id : ℕ
 
 abbrev pub name : ℕ → ℕ → Limits → ℕ → Name
-name keeper_id log_id limits node_id = record { keeper_id = keeper_id; log_id = log_id; limits = limits; node_id = node_id }
+name keeper_id log_id limits node_id =
+    record { keeper_id = keeper_id; log_id = log_id; limits = limits; node_id = node_id }
 
 abbrev pub name_code : Coded Name
 name_code =
@@ -27,10 +28,11 @@ name_code =
 
 -- a hub with these limits and this node id is opened, unless the limits are refused
 abbrev pub OpensHub : Limits → ℕ → Result Name HubCreateError → Type 0
-OpensHub limits node_id (Ok opened) = (hub_refusal limits ≡ None) × (opened.limits ≡ limits) × (opened.node_id ≡ node_id)
+OpensHub limits node_id (Ok opened) =
+    (hub_refusal limits ≡ None) × (opened.limits ≡ limits) × (opened.node_id ≡ node_id)
 OpensHub limits node_id (Err error) = hub_refusal limits ≡ Some error
 
--- what a contract sees of a seat: who it is, and the states after the calls that it has seen, each with its caller
+-- a seat as contracts see it: its identity, and the states after the calls that it has seen, each with its caller
 abbrev pub Seated : Type 0 → Type 0
 Seated S = ℕ × List (ℕ × S)
 
@@ -39,7 +41,8 @@ abbrev pub state_after : {S : Type 0} → S → List (ℕ × S) → S
 state_after start [] = start
 state_after start (call ∷ calls) = state_after call.1 calls
 
--- what a seat has seen goes on by calls of others, and then by just this call, which is its own, and leads from a state to the next
+-- a seat's history is extended by calls of others, and then by exactly this call, which is its own, and leads from a
+-- state to the next
 abbrev pub MakesCall : {S : Type 0} → S → (S → S → Type 0) → Seated S → Seated S → Type 0
 MakesCall {S} start Call old new =
     (others : List (ℕ × S)) × (after : S)

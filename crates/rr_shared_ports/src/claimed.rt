@@ -1,20 +1,17 @@
 //! A port or a handle with the claim on it.
-ghost use Rattle.std.specs.Fn.{FnOnceReturnsAt, FnOnceTakesAt};
 ghost use Rattle.std.specs.Prelude.{◌≡◌};
-ghost use Rattle.rr_shared_ports.specs.Turns.{MakesCall};
+ghost use Rattle.std.specs.Fn.{FnOnceReturnsAt, FnOnceTakesAt};
+ghost use Rattle.rr_shared_ports.specs.Words.{MakesCall};
 
-use crate::naming::Naming;
-use crate::ports::Ports;
-use crate::seat::Seat;
-use crate::shared_ports::SharedPorts;
+use crate::{Naming, Ports, Seat, SharedPorts};
 use rr_claims::Claim;
 use rr_ports::Handle;
 use rr_protocol::Kind;
 use std::marker::{Model, PhantomData};
 use std::sync::Wait;
 
-/// A port or a handle of a shared hub, with the claim that it is there, which no other thread's call takes away. Contracts see its
-/// number. It has the bytes of the handle alone, and is not dropped: `release` ends it. Not in iceoryx2.
+/// A port or a handle of a shared hub, with a claim on it: no other thread's call can invalidate it. Contracts see
+/// its number. It is as large as the handle, and is not dropped: `release` ends it. Not in iceoryx2.
 ///
 /// # Examples
 ///
@@ -57,29 +54,32 @@ impl<N: Naming, A: Handle> Model for Claimed<N, A> {
 
     ghost view = { λ c. A.number c.handle };
 
-    ghost invariant = { λ c. (c.claim.id ≡ N.keeper_id) × (c.claim.number ≡ A.number c.handle) × (c.claim.what ≡ A.kind) };
+    ghost invariant = { λ c. (c.claim.id ≡ N.keeper_id) × (c.claim.number ≡ A.number c.handle)
+        × (c.claim.what ≡ A.kind) };
 }
 
 impl<N: Naming, A: Handle> Claimed<N, A> {
-    /// Returns the port or handle of `rr_ports`, for functions that `look` calls. Takes no lock. Not in iceoryx2.
+    /// Returns the port or handle of `rr_ports`, for use in functions passed to `look`. Takes no lock. Not in
+    /// iceoryx2.
     pub fn handle(&self) -> &A
         ensures { A.number result.now ≡ self.now }
     {
         &self.handle
     }
 
-    /// Lets a function look at the hub under the lock, where what is claimed is there. It may call all that `rr_ports` has for it and
-    /// that changes nothing: `header`, `user_header`, `payload`, `backpressure_strategy` and so on. What it returns can't borrow from
-    /// the hub. Not in iceoryx2.
-    pub fn look<R: Wait, H: Ports, U, F: FnOnce(&H) -> U>(
+    /// Lets a function read the hub under the lock, where the claimed port or handle exists. The function may make
+    /// any call of `rr_ports` that changes nothing: `header`, `user_header`, `payload`, `backpressure_strategy` and
+    /// so on. Its result can't borrow from the hub. Not in iceoryx2.
+    pub fn look<H: Ports, U, F: FnOnce(&H) -> U>(
         &self,
         hub: &SharedPorts<N, H>,
-        rt: &R,
+        rt: &impl Wait,
         seat: &mut Seat<N, H>,
         f: F,
     ) -> U
         requires { (state : H) → H.names state self.now A.kind → FnOnceTakesAt F.FnOnce f state }
-        ensures { MakesCall (H.empty N.limits N.node_id) (λ before after. (after ≡ before) × FnOnceReturnsAt F.FnOnce f before result) seat.old seat.new }
+        ensures { MakesCall (H.empty N.limits N.node_id)
+            (λ before after. (after ≡ before) × FnOnceReturnsAt F.FnOnce f before result) seat.old seat.new }
     {
         hub.looked(rt, seat, self, f)
     }

@@ -1,26 +1,24 @@
-//! What calls of the ports do to claims.
+//! Changes of claims by calls of the ports.
 ghost use Rattle.std.specs.Prelude.{◌≡◌, ◌∷◌, []};
-ghost use Rattle.rr_shared_ports.specs.Calls.{IsMade, IsReceived, IsSpent, IsTried, MakesFree, ReceivesFree, SpendsFree, TriesFree, TurnsFree};
+ghost use Rattle.rr_shared_ports.specs.Words.{IsMade, IsReceived, IsSpent, IsTried, MakesFree, ReceivesFree, SpendsFree, TriesFree, TurnsFree};
 
-use crate::claimed::Claimed;
-use crate::naming::Naming;
-use crate::ports::Ports;
+use crate::{Claimed, Naming, Ports};
 use rr_claims::{Claim, Keeper, Named, Says};
 use rr_ports::{Handle, Refused};
 use rr_protocol::Kind;
 use std::marker::{Model, PhantomData};
 
-/// A claim says of a hub that its number names something of this kind there.
+/// The rule of a claim: its number names a port or a handle of its kind in the hub.
 pub(crate) struct NamesKind;
 
 impl<H: Ports> Says<H, Kind> for NamesKind {
     ghost says = { λ hub number kind. H.names hub number kind };
 }
 
-/// The keeper of what is claimed of a hub.
+/// The keeper of the claims on a hub.
 pub(crate) type HubKeeper<H> = Keeper<H, Kind, NamesKind>;
 
-/// A handle as that by which its number is claimed.
+/// A handle, as the source of a claim's number and kind.
 #[derive(Drop)]
 struct Numbered<'a, A: Handle> {
     handle: &'a A,
@@ -32,7 +30,7 @@ impl<'a, A: Handle> Named<Kind> for Numbered<'a, A> {
     ghost what = { A.kind };
 }
 
-/// Claims what a call made, which leaves all else as it was.
+/// Claims the handle that a call made; all other claims stay.
 pub(crate) fn granted<N: Naming, A: Handle, H: Ports>(
     hub: &H,
     keeper: &mut HubKeeper<H>,
@@ -54,7 +52,7 @@ pub(crate) fn granted<N: Naming, A: Handle, H: Ports>(
     }
 }
 
-/// Keeps all claims, after a call that made nothing and ended nothing.
+/// Keeps all claims after a call that made and ended no handle.
 pub(crate) fn kept<H: Ports>(hub: &H, keeper: &mut HubKeeper<H>)
     requires keeps { H.steps [] keeper.old.state hub.now }
     ensures id { keeper.new.id ≡ keeper.old.id }
@@ -63,7 +61,7 @@ pub(crate) fn kept<H: Ports>(hub: &H, keeper: &mut HubKeeper<H>)
     keeper.change(hub);
 }
 
-/// Keeps all claims, after a call that changed what one of them is on.
+/// Keeps all claims after a call that changed the handle of `claim`.
 pub(crate) fn renewed<H: Ports>(hub: &H, keeper: &mut HubKeeper<H>, claim: &Claim<Kind>)
     requires named { H.names keeper.old.state claim.now.number claim.now.what }
     requires keeps { H.steps (claim.now.number ∷ []) keeper.old.state hub.now }
@@ -74,7 +72,7 @@ pub(crate) fn renewed<H: Ports>(hub: &H, keeper: &mut HubKeeper<H>, claim: &Clai
     keeper.change(hub);
 }
 
-/// Gives a claim back, after a call that ended what it was on.
+/// Retires a claim after a call that ended its handle.
 pub(crate) fn retired<H: Ports>(hub: &H, keeper: &mut HubKeeper<H>, claim: Claim<Kind>)
     requires id { claim.id ≡ keeper.old.id }
     requires keeps { H.steps (claim.number ∷ []) keeper.old.state hub.now }
@@ -84,7 +82,7 @@ pub(crate) fn retired<H: Ports>(hub: &H, keeper: &mut HubKeeper<H>, claim: Claim
     keeper.retire(hub, claim);
 }
 
-/// Gives a claim for one on what a call made of it.
+/// Replaces a claim after a call that turned its handle into another.
 pub(crate) fn exchanged<N: Naming, A: Handle, H: Ports>(
     hub: &H,
     keeper: &mut HubKeeper<H>,
@@ -108,7 +106,7 @@ pub(crate) fn exchanged<N: Naming, A: Handle, H: Ports>(
     }
 }
 
-/// Claims what a call made, if it made something.
+/// Claims the handle that a call made, if it succeeded.
 pub(crate) fn granted_if<N: Naming, A: Handle, H: Ports, E>(
     hub: &H,
     keeper: &mut HubKeeper<H>,
@@ -129,7 +127,7 @@ pub(crate) fn granted_if<N: Naming, A: Handle, H: Ports, E>(
     }
 }
 
-/// Claims what a call received, if something came.
+/// Claims the handle that a call received, if there is one.
 pub(crate) fn granted_some<N: Naming, A: Handle, H: Ports, E>(
     hub: &H,
     keeper: &mut HubKeeper<H>,
@@ -154,7 +152,7 @@ pub(crate) fn granted_some<N: Naming, A: Handle, H: Ports, E>(
     }
 }
 
-/// Gives a claim for one on what a call made of it, or back if the call ended it.
+/// Replaces a claim after a call that turned its handle into another, or retires it if the call ended the handle.
 pub(crate) fn exchanged_if<N: Naming, A: Handle, H: Ports, E>(
     hub: &H,
     keeper: &mut HubKeeper<H>,
@@ -177,7 +175,7 @@ pub(crate) fn exchanged_if<N: Naming, A: Handle, H: Ports, E>(
     }
 }
 
-/// Gives a claim for one on what a call made of it, or for one on what the call gave back.
+/// Replaces a claim after a call that turned its handle into another, or renews it if the call returned the handle.
 pub(crate) fn exchanged_both<N: Naming, A: Handle, B: Handle, H: Ports, E>(
     hub: &H,
     keeper: &mut HubKeeper<H>,
@@ -186,7 +184,8 @@ pub(crate) fn exchanged_both<N: Naming, A: Handle, B: Handle, H: Ports, E>(
 ) -> Result<Claimed<N, B>, Refused<Claimed<N, A>, E>>
     requires id { keeper.old.id ≡ N.keeper_id }
     requires claim { claim.id ≡ keeper.old.id }
-    requires tries { TriesFree A.number B.number A.kind B.kind H.steps H.names claim.number keeper.old.state made hub.now }
+    requires tries { TriesFree A.number B.number A.kind B.kind H.steps H.names claim.number keeper.old.state made
+        hub.now }
     ensures id { keeper.new.id ≡ keeper.old.id }
     ensures state { keeper.new.state ≡ hub.now }
     ensures tried { IsTried A.number B.number made result }
@@ -200,7 +199,7 @@ pub(crate) fn exchanged_both<N: Naming, A: Handle, B: Handle, H: Ports, E>(
     }
 }
 
-/// Gives a claim back after a call that ended what it was on, or for one on what the call gave back.
+/// Retires a claim after a call that ended its handle, or renews it if the call returned the handle.
 pub(crate) fn retired_if<N: Naming, A: Handle, H: Ports, U, E>(
     hub: &H,
     keeper: &mut HubKeeper<H>,

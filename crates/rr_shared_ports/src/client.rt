@@ -1,32 +1,21 @@
 //! Clients of a shared hub.
 ghost use Rattle.std.specs.Prelude.{◌≡◌, [], IfOk, ℕ};
-ghost use Rattle.rr_ports.specs.Facts.{IsFree, Keeps, Names};
+ghost use Rattle.rr_shared_ports.specs.Words.{IsFree, Keeps, Names, CreatesClientBy, client_defaults, empty_hub, MakesCall};
 ghost use Rattle.rr_protocol.specs.declared.kind.Kind.TheVariants as kind;
-ghost use Rattle.rr_ports.specs.Factories.{CreatesClientBy};
-ghost use Rattle.rr_protocol.specs.Settings.{client_defaults};
-ghost use Rattle.rr_protocol.specs.State.{empty_hub};
-ghost use Rattle.rr_shared_ports.specs.Turns.{MakesCall};
 
-use crate::claimed::Claimed;
-use crate::naming::Naming;
-use crate::seat::Seat;
-use crate::shared_ports::SharedPorts;
+use crate::{Claimed, Header, Naming, Seat, SharedPorts};
 use rr_ports::{
     BackpressureFn, Body, Client, ClientCreateError, Hub, PortFactoryClient, Preallocation,
     UniqueClientId, WriteBody,
 };
 use std::sync::Wait;
 
-impl<
-    N: Naming,
-    QB: WriteBody,
-    QH: Default + Drop,
-    PB: Body,
-    PH: Default + Drop,
-    K: BackpressureFn,
-> SharedPorts<N, Hub<QB, QH, PB, PH, K>> {
+impl<N: Naming, QB: WriteBody, QH: Header, PB: Body, PH: Header, K: BackpressureFn> SharedPorts<
+    N,
+    Hub<QB, QH, PB, PH, K>,
+> {
     /// Returns a factory of clients with the default settings. After `Hub::client_builder` of `rr_ports`.
-    pub fn client_builder<R: Wait>(&self, rt: &R) -> PortFactoryClient<QB, K>
+    pub fn client_builder(&self, rt: &impl Wait) -> PortFactoryClient<QB, K>
         ensures { result ≡ record { settings = client_defaults; preallocation = tt } }
     {
         self.inside.lock(rt).ports.client_builder()
@@ -37,14 +26,15 @@ impl<
     /// # Errors
     ///
     /// As `PortFactoryClient::create`.
-    pub fn create_client<R: Wait, P: Preallocation + Drop>(
+    pub fn create_client<P: Preallocation + Drop>(
         &self,
-        rt: &R,
+        rt: &impl Wait,
         seat: &mut Seat<N, Hub<QB, QH, PB, PH, K>>,
         factory: PortFactoryClient<QB, K, P>,
     ) -> Result<Claimed<N, Client<QB>>, ClientCreateError>
         requires { (worst_case : ℕ) → P.accepts factory.preallocation worst_case }
-        ensures { MakesCall (empty_hub N.limits N.node_id) (λ before after. CreatesClientBy P.chooses before factory result after) seat.old seat.new }
+        ensures { MakesCall (empty_hub N.limits N.node_id)
+            (λ before after. CreatesClientBy P.chooses before factory result after) seat.old seat.new }
     {
         self.created(
             rt,

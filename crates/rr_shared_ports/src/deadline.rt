@@ -1,16 +1,16 @@
-//! For how long a wait may go on.
+//! Deadlines of waits.
 use std::time::{Clock, Duration, Instant};
 
-/// For how long a thread sleeps at most before it looks again, in seconds.
+/// The longest sleep between two polls, in seconds.
 const NAP: u64 = 3600;
 
-/// What ends a wait, whatever comes.
+/// A bound on the duration of a wait.
 pub(crate) trait Deadline<R> {
-    /// Returns for how long a thread may sleep now, or `None` if the wait is over.
+    /// Returns how long the thread may sleep now, or `None` if the time is over.
     fn nap(&self, rt: &R) -> Option<Duration>;
 }
 
-/// Nothing ends it.
+/// No deadline: the wait goes on until something arrives or the hub is closed.
 #[derive(Drop)]
 pub(crate) struct Never;
 
@@ -20,7 +20,7 @@ impl<R> Deadline<R> for Never {
     }
 }
 
-/// A time ends it, and so does a clock that can't be read.
+/// A deadline `most` after `start`; a clock that can't be read counts as expired.
 #[derive(Drop)]
 pub(crate) struct Timeout {
     start: Option<Instant>,
@@ -28,7 +28,7 @@ pub(crate) struct Timeout {
 }
 
 impl Timeout {
-    /// The time that comes after this one by so much.
+    /// Returns the deadline `most` from now.
     pub(crate) fn after<R: Clock>(rt: &R, most: Duration) -> Timeout {
         Timeout {
             start: Instant::now(rt).ok(),

@@ -1,17 +1,14 @@
-//! What lies under the lock.
+//! The value under the lock.
 ghost use Rattle.std.specs.Prelude.{◌≡◌, ℕ, List};
-ghost use Rattle.rr_shared_ports.specs.Leading.{IsHistory};
-ghost use Rattle.rr_shared_ports.specs.Turns.{EndsIn, IsNoted, state_after};
+ghost use Rattle.rr_shared_ports.specs.Words.{IsHistory, EndsIn, IsNoted, state_after};
 
 use crate::claims::HubKeeper;
-use crate::naming::Naming;
-use crate::ports::Ports;
-use crate::seat::Seat;
+use crate::{Naming, Ports, Seat};
 use rr_log::{Log, Pen};
 use std::marker::{Model, PhantomData};
 
-/// A hub with the keeper of what is claimed of it, and the pen of the log of the states that its calls left, which leads to its state by
-/// steps.
+/// A hub with the keeper of its claims, and the pen of the log of the states after each call. The log's steps lead to
+/// the hub's state.
 #[derive(Drop)]
 pub(crate) struct Desk<N: Naming, H: Ports> {
     pub(crate) ports: H,
@@ -29,10 +26,12 @@ impl<N: Naming, H: Ports> Model for Desk<N, H> {
 
     ghost view = { λ d. tt };
 
-    ghost invariant = { λ d. (d.keeper.id ≡ N.keeper_id) × (d.keeper.state ≡ d.ports) × (d.pen.log_id ≡ N.log_id) × (state_after (H.empty N.limits N.node_id) d.pen.entries ≡ d.ports) × IsHistory H.steps (H.empty N.limits N.node_id) d.pen.entries };
+    ghost invariant = { λ d. (d.keeper.id ≡ N.keeper_id) × (d.keeper.state ≡ d.ports) × (d.pen.log_id ≡ N.log_id)
+        × (state_after (H.empty N.limits N.node_id) d.pen.entries ≡ d.ports)
+        × IsHistory H.steps (H.empty N.limits N.node_id) d.pen.entries };
 }
 
-/// Adds the state that a seat's call left, which is a step, to the log.
+/// Appends the state after a seat's call, which is a step, to the log.
 pub(crate) fn noted<N: Naming, H: Ports>(
     ports: &H,
     log: &Log<H>,
@@ -42,7 +41,8 @@ pub(crate) fn noted<N: Naming, H: Ports>(
     requires log { log.now ≡ N.log_id }
     requires pen { pen.old.log_id ≡ N.log_id }
     requires history { IsHistory H.steps (H.empty N.limits N.node_id) pen.old.entries }
-    requires steps { (handed : List ℕ) × H.steps handed (state_after (H.empty N.limits N.node_id) pen.old.entries) ports.now }
+    requires steps { (handed : List ℕ) × H.steps handed (state_after (H.empty N.limits N.node_id) pen.old.entries)
+        ports.now }
     ensures pen { pen.new.log_id ≡ N.log_id }
     ensures history { IsHistory H.steps (H.empty N.limits N.node_id) pen.new.entries }
     ensures ends { EndsIn ports.now pen.new.entries }

@@ -1,5 +1,5 @@
-//! A hub of ports that threads share. Each thread holds its ports and handles, and calls them as those of `rr_ports`, under one lock;
-//! a history that exists in proofs alone tells each caller from which state its call led to which.
+//! A hub of ports that threads share. Each thread holds its ports and handles, and calls them as those of `rr_ports`,
+//! under one lock; a history that exists in proofs alone gives each caller the states before and after its call.
 #![tactic(auto)]
 
 mod active_request;
@@ -17,10 +17,8 @@ mod opened;
 mod pending_response;
 mod ports;
 mod release;
-mod request_mut;
-mod response_mut;
 mod seat;
-mod send_wait;
+mod sending;
 mod server;
 mod shared_ports;
 pub mod sliced;
@@ -34,7 +32,7 @@ pub use claimed::Claimed;
 pub use error::{AskError, CallError, FinishError, ServeError, WaitError, WriteError};
 pub use naming::Naming;
 pub use opened::Opened;
-pub use ports::Ports;
+pub use ports::{Header, Ports};
 pub use release::Release;
 pub use seat::Seat;
 pub use shared_ports::SharedPorts;

@@ -1,37 +1,36 @@
-//! The calls of seats: each takes the lock once, and wakes those whose waits it may have ended.
-ghost use Rattle.std.specs.Fn.{FnOnceReturnsAt, FnOnceReturnsAtMut, FnOnceTakesAt, FnOnceTakesAtMut};
+//! The calls of seats. Each takes the lock once, and wakes the waiters whose waits it may have ended.
 ghost use Rattle.std.specs.Prelude.{◌≡◌, ◌<◌, ◌∷◌, [], Option, Result};
-ghost use Rattle.rr_shared_ports.specs.Calls.{CanTake, IsMade, IsReceived, IsSpent, IsTried, MakesFree, ReceivesFree, SpendsFree, Takes, Tells, TriesFree, TurnsFree};
-ghost use Rattle.rr_shared_ports.specs.Turns.{MakesCall};
+ghost use Rattle.std.specs.Fn.{FnOnceReturnsAt, FnOnceReturnsAtMut, FnOnceTakesAt, FnOnceTakesAtMut};
+ghost use Rattle.rr_shared_ports.specs.Words.{CanTake, IsMade, IsReceived, IsSpent, IsTried, MakesFree, ReceivesFree, SpendsFree, Takes, Tells, TriesFree, TurnsFree, MakesCall};
 
-use crate::claimed::Claimed;
 use crate::claims::{
     exchanged, exchanged_both, exchanged_if, granted_if, granted_some, kept, renewed, retired,
     retired_if,
 };
 use crate::desk::noted;
-use crate::error::{CallError, told};
-use crate::naming::Naming;
-use crate::ports::Ports;
-use crate::seat::Seat;
-use crate::shared_ports::SharedPorts;
+use crate::error::told;
 use crate::waking::Change;
+use crate::{CallError, Claimed, Naming, Ports, Seat, SharedPorts};
 use rr_ports::{Handle, Refused};
 use std::fmt::Display;
 use std::sync::Wait;
 
 impl<N: Naming, H: Ports> SharedPorts<N, H> {
-    /// Makes a port, and claims it.
+    /// Creates a port, and claims it.
     #[inline(always)]
-    pub(crate) fn created<R: Wait, B: Handle, E, F: FnOnce(&mut H) -> Result<B, E>>(
+    pub(crate) fn created<B: Handle, E, F: FnOnce(&mut H) -> Result<B, E>>(
         &self,
-        rt: &R,
+        rt: &impl Wait,
         seat: &mut Seat<N, H>,
         f: F,
     ) -> Result<Claimed<N, B>, E>
         requires callable { (state : H) → FnOnceTakesAtMut F.FnOnce f state }
-        requires makes { (state : H) → (made : Result B E) (after : H) → FnOnceReturnsAtMut F.FnOnce f state made after → MakesFree B.number B.kind H.steps H.is_free H.names state made after }
-        ensures { MakesCall (H.empty N.limits N.node_id) (λ before after. (made : Result B E) × FnOnceReturnsAtMut F.FnOnce f before made after × IsMade B.number made result) seat.old seat.new }
+        requires makes { (state : H) → (made : Result B E) (after : H)
+            → FnOnceReturnsAtMut F.FnOnce f state made after
+            → MakesFree B.number B.kind H.steps H.is_free H.names state made after }
+        ensures { MakesCall (H.empty N.limits N.node_id)
+            (λ before after. (made : Result B E) × FnOnceReturnsAtMut F.FnOnce f before made after
+            × IsMade B.number made result) seat.old seat.new }
     {
         let mut inside = self.inside.lock(rt);
         let desk = &mut *inside;
@@ -41,17 +40,18 @@ impl<N: Naming, H: Ports> SharedPorts<N, H> {
         answer
     }
 
-    /// Looks at a hub.
+    /// Runs a call that only reads the hub.
     #[inline(always)]
-    pub(crate) fn looked<R: Wait, A: Handle, U, F: FnOnce(&H) -> U>(
+    pub(crate) fn looked<A: Handle, U, F: FnOnce(&H) -> U>(
         &self,
-        rt: &R,
+        rt: &impl Wait,
         seat: &mut Seat<N, H>,
         claimed: &Claimed<N, A>,
         f: F,
     ) -> U
         requires callable { (state : H) → H.names state claimed.now A.kind → FnOnceTakesAt F.FnOnce f state }
-        ensures { MakesCall (H.empty N.limits N.node_id) (λ before after. (after ≡ before) × (FnOnceReturnsAt F.FnOnce f before result)) seat.old seat.new }
+        ensures { MakesCall (H.empty N.limits N.node_id)
+            (λ before after. (after ≡ before) × (FnOnceReturnsAt F.FnOnce f before result)) seat.old seat.new }
     {
         let mut inside = self.inside.lock(rt);
         let desk = &mut *inside;
@@ -61,19 +61,21 @@ impl<N: Naming, H: Ports> SharedPorts<N, H> {
         answer
     }
 
-    /// Changes a hub by a call that ends nothing.
+    /// Runs a call that changes the hub and ends no handle.
     #[inline(always)]
-    pub(crate) fn changed<R: Wait, A: Handle, U, F: FnOnce(&mut H) -> U>(
+    pub(crate) fn changed<A: Handle, U, F: FnOnce(&mut H) -> U>(
         &self,
-        rt: &R,
+        rt: &impl Wait,
         seat: &mut Seat<N, H>,
         claimed: &Claimed<N, A>,
         changes: &[Change],
         f: F,
     ) -> U
         requires callable { (state : H) → H.names state claimed.now A.kind → FnOnceTakesAtMut F.FnOnce f state }
-        requires keeps { (state : H) → (returned : U) (after : H) → FnOnceReturnsAtMut F.FnOnce f state returned after → H.steps [] state after }
-        ensures { MakesCall (H.empty N.limits N.node_id) (λ before after. FnOnceReturnsAtMut F.FnOnce f before result after) seat.old seat.new }
+        requires keeps { (state : H) → (returned : U) (after : H) → FnOnceReturnsAtMut F.FnOnce f state returned after
+            → H.steps [] state after }
+        ensures { MakesCall (H.empty N.limits N.node_id)
+            (λ before after. FnOnceReturnsAtMut F.FnOnce f before result after) seat.old seat.new }
     {
         let mut inside = self.inside.lock(rt);
         let desk = &mut *inside;
@@ -86,19 +88,23 @@ impl<N: Naming, H: Ports> SharedPorts<N, H> {
         answer
     }
 
-    /// Makes a call that needs a number and makes nothing that stays, if a number is left.
+    /// Runs a call that takes a number but leaves no new handle, if a number is left.
     #[inline(always)]
-    pub(crate) fn numbered<R: Wait, A: Handle, U, E: Display, F: FnOnce(&mut H) -> Result<U, E>>(
+    pub(crate) fn numbered<A: Handle, U, E: Display, F: FnOnce(&mut H) -> Result<U, E>>(
         &self,
-        rt: &R,
+        rt: &impl Wait,
         seat: &mut Seat<N, H>,
         claimed: &Claimed<N, A>,
         changes: &[Change],
         f: F,
     ) -> Result<U, CallError<E>>
-        requires callable { (state : H) → H.names state claimed.now A.kind → 0 < H.numbers state → FnOnceTakesAtMut F.FnOnce f state }
-        requires keeps { (state : H) → (returned : Result U E) (after : H) → FnOnceReturnsAtMut F.FnOnce f state returned after → H.steps [] state after }
-        ensures { MakesCall (H.empty N.limits N.node_id) (Tells H.numbers (λ answer before after. FnOnceReturnsAtMut F.FnOnce f before answer after) result) seat.old seat.new }
+        requires callable { (state : H) → H.names state claimed.now A.kind → 0 < H.numbers state
+            → FnOnceTakesAtMut F.FnOnce f state }
+        requires keeps { (state : H) → (returned : Result U E) (after : H)
+            → FnOnceReturnsAtMut F.FnOnce f state returned after → H.steps [] state after }
+        ensures { MakesCall (H.empty N.limits N.node_id)
+            (Tells H.numbers (λ answer before after. FnOnceReturnsAtMut F.FnOnce f before answer after) result)
+            seat.old seat.new }
     {
         let mut inside = self.inside.lock(rt);
         let desk = &mut *inside;
@@ -117,23 +123,22 @@ impl<N: Naming, H: Ports> SharedPorts<N, H> {
 
     /// Makes a handle, if a number is left, and claims it.
     #[inline(always)]
-    pub(crate) fn made<
-        R: Wait,
-        A: Handle,
-        B: Handle,
-        E: Display,
-        F: FnOnce(&mut H) -> Result<B, E>,
-    >(
+    pub(crate) fn made<A: Handle, B: Handle, E: Display, F: FnOnce(&mut H) -> Result<B, E>>(
         &self,
-        rt: &R,
+        rt: &impl Wait,
         seat: &mut Seat<N, H>,
         claimed: &Claimed<N, A>,
         changes: &[Change],
         f: F,
     ) -> Result<Claimed<N, B>, CallError<E>>
-        requires callable { (state : H) → H.names state claimed.now A.kind → 0 < H.numbers state → FnOnceTakesAtMut F.FnOnce f state }
-        requires makes { (state : H) → (made : Result B E) (after : H) → FnOnceReturnsAtMut F.FnOnce f state made after → MakesFree B.number B.kind H.steps H.is_free H.names state made after }
-        ensures { MakesCall (H.empty N.limits N.node_id) (Tells H.numbers (λ answer before after. (made : Result B E) × FnOnceReturnsAtMut F.FnOnce f before made after × IsMade B.number made answer) result) seat.old seat.new }
+        requires callable { (state : H) → H.names state claimed.now A.kind → 0 < H.numbers state
+            → FnOnceTakesAtMut F.FnOnce f state }
+        requires makes { (state : H) → (made : Result B E) (after : H)
+            → FnOnceReturnsAtMut F.FnOnce f state made after
+            → MakesFree B.number B.kind H.steps H.is_free H.names state made after }
+        ensures { MakesCall (H.empty N.limits N.node_id)
+            (Tells H.numbers (λ answer before after. (made : Result B E)
+            × FnOnceReturnsAtMut F.FnOnce f before made after × IsMade B.number made answer) result) seat.old seat.new }
     {
         let mut inside = self.inside.lock(rt);
         let desk = &mut *inside;
@@ -150,25 +155,23 @@ impl<N: Naming, H: Ports> SharedPorts<N, H> {
         told(answer)
     }
 
-    /// Receives a handle, if one comes, and claims it.
+    /// Receives a handle, if a message is queued, and claims it.
     #[inline(always)]
-    pub(crate) fn received<
-        R: Wait,
-        A: Handle,
-        B: Handle,
-        E,
-        F: FnOnce(&mut H) -> Result<Option<B>, E>,
-    >(
+    pub(crate) fn received<A: Handle, B: Handle, E, F: FnOnce(&mut H) -> Result<Option<B>, E>>(
         &self,
-        rt: &R,
+        rt: &impl Wait,
         seat: &mut Seat<N, H>,
         claimed: &Claimed<N, A>,
         changes: &[Change],
         f: F,
     ) -> Result<Option<Claimed<N, B>>, E>
         requires callable { (state : H) → H.names state claimed.now A.kind → FnOnceTakesAtMut F.FnOnce f state }
-        requires receives { (state : H) → (received : Result (Option B) E) (after : H) → FnOnceReturnsAtMut F.FnOnce f state received after → ReceivesFree B.number B.kind H.steps H.is_free H.names state received after }
-        ensures { MakesCall (H.empty N.limits N.node_id) (λ before after. (received : Result (Option B) E) × FnOnceReturnsAtMut F.FnOnce f before received after × IsReceived B.number received result) seat.old seat.new }
+        requires receives { (state : H) → (received : Result (Option B) E) (after : H)
+            → FnOnceReturnsAtMut F.FnOnce f state received after
+            → ReceivesFree B.number B.kind H.steps H.is_free H.names state received after }
+        ensures { MakesCall (H.empty N.limits N.node_id)
+            (λ before after. (received : Result (Option B) E) × FnOnceReturnsAtMut F.FnOnce f before received after
+            × IsReceived B.number received result) seat.old seat.new }
     {
         let mut inside = self.inside.lock(rt);
         let desk = &mut *inside;
@@ -181,19 +184,23 @@ impl<N: Naming, H: Ports> SharedPorts<N, H> {
         answer
     }
 
-    /// Makes a handle another one, or ends it, and gives its claim for one on what it is then.
+    /// Runs a call that turns the handle into another kind, or consumes it on an error, and replaces its claim.
     #[inline(always)]
-    pub(crate) fn turned<R: Wait, A: Handle, B: Handle, E, F: FnOnce(A, &mut H) -> Result<B, E>>(
+    pub(crate) fn turned<A: Handle, B: Handle, E, F: FnOnce(A, &mut H) -> Result<B, E>>(
         &self,
-        rt: &R,
+        rt: &impl Wait,
         seat: &mut Seat<N, H>,
         claimed: Claimed<N, A>,
         changes: &[Change],
         f: F,
     ) -> Result<Claimed<N, B>, E>
         requires callable { (state : H) → H.names state claimed A.kind → CanTake F.FnOnce A.number f claimed state }
-        requires exchanges { (state : H) → (made : Result B E) (after : H) → Takes F.FnOnce A.number f claimed state made after → TurnsFree B.number B.kind H.steps H.names claimed state made after }
-        ensures { MakesCall (H.empty N.limits N.node_id) (λ before after. (made : Result B E) × Takes F.FnOnce A.number f claimed before made after × IsMade B.number made result) seat.old seat.new }
+        requires exchanges { (state : H) → (made : Result B E) (after : H)
+            → Takes F.FnOnce A.number f claimed state made after
+            → TurnsFree B.number B.kind H.steps H.names claimed state made after }
+        ensures { MakesCall (H.empty N.limits N.node_id)
+            (λ before after. (made : Result B E) × Takes F.FnOnce A.number f claimed before made after
+            × IsMade B.number made result) seat.old seat.new }
     {
         let mut inside = self.inside.lock(rt);
         let desk = &mut *inside;
@@ -211,19 +218,21 @@ impl<N: Naming, H: Ports> SharedPorts<N, H> {
         answer
     }
 
-    /// Ends a handle, and gives its claim back.
+    /// Runs a call that consumes the handle, and retires its claim.
     #[inline(always)]
-    pub(crate) fn ended<R: Wait, A: Handle, U, F: FnOnce(A, &mut H) -> U>(
+    pub(crate) fn ended<A: Handle, U, F: FnOnce(A, &mut H) -> U>(
         &self,
-        rt: &R,
+        rt: &impl Wait,
         seat: &mut Seat<N, H>,
         claimed: Claimed<N, A>,
         changes: &[Change],
         f: F,
     ) -> U
         requires callable { (state : H) → H.names state claimed A.kind → CanTake F.FnOnce A.number f claimed state }
-        requires keeps { (state : H) → (returned : U) (after : H) → Takes F.FnOnce A.number f claimed state returned after → H.steps (claimed ∷ []) state after }
-        ensures { MakesCall (H.empty N.limits N.node_id) (λ before after. Takes F.FnOnce A.number f claimed before result after) seat.old seat.new }
+        requires keeps { (state : H) → (returned : U) (after : H)
+            → Takes F.FnOnce A.number f claimed state returned after → H.steps (claimed ∷ []) state after }
+        ensures { MakesCall (H.empty N.limits N.node_id)
+            (λ before after. Takes F.FnOnce A.number f claimed before result after) seat.old seat.new }
     {
         let mut inside = self.inside.lock(rt);
         let desk = &mut *inside;
@@ -241,18 +250,21 @@ impl<N: Naming, H: Ports> SharedPorts<N, H> {
         answer
     }
 
-    /// Makes a handle another one, and gives its claim for one on what it is then.
+    /// Runs a call that turns the handle into another kind, and replaces its claim.
     #[inline(always)]
-    pub(crate) fn became<R: Wait, A: Handle, B: Handle, F: FnOnce(A, &mut H) -> B>(
+    pub(crate) fn became<A: Handle, B: Handle, F: FnOnce(A, &mut H) -> B>(
         &self,
-        rt: &R,
+        rt: &impl Wait,
         seat: &mut Seat<N, H>,
         claimed: Claimed<N, A>,
         f: F,
     ) -> Claimed<N, B>
         requires callable { (state : H) → H.names state claimed A.kind → CanTake F.FnOnce A.number f claimed state }
-        requires exchanges { (state : H) → (made : B) (after : H) → Takes F.FnOnce A.number f claimed state made after → H.steps (claimed ∷ []) state after × (B.number made ≡ claimed) × H.names after (B.number made) B.kind }
-        ensures { MakesCall (H.empty N.limits N.node_id) (λ before after. (made : B) × Takes F.FnOnce A.number f claimed before made after × (result ≡ B.number made)) seat.old seat.new }
+        requires exchanges { (state : H) → (made : B) (after : H) → Takes F.FnOnce A.number f claimed state made after
+            → H.steps (claimed ∷ []) state after × (B.number made ≡ claimed) × H.names after (B.number made) B.kind }
+        ensures { MakesCall (H.empty N.limits N.node_id)
+            (λ before after. (made : B) × Takes F.FnOnce A.number f claimed before made after
+            × (result ≡ B.number made)) seat.old seat.new }
     {
         let mut inside = self.inside.lock(rt);
         let desk = &mut *inside;
@@ -268,25 +280,30 @@ impl<N: Naming, H: Ports> SharedPorts<N, H> {
         answer
     }
 
-    /// Receives a handle, if a number is left and one comes, and claims it.
+    /// Receives a handle, if a number is left and a message is queued, and claims it.
     #[inline(always)]
     pub(crate) fn heard<
-        R: Wait,
         A: Handle,
         B: Handle,
         E: Display,
         F: FnOnce(&mut H) -> Result<Option<B>, E>,
     >(
         &self,
-        rt: &R,
+        rt: &impl Wait,
         seat: &mut Seat<N, H>,
         claimed: &Claimed<N, A>,
         changes: &[Change],
         f: F,
     ) -> Result<Option<Claimed<N, B>>, CallError<E>>
-        requires callable { (state : H) → H.names state claimed.now A.kind → 0 < H.numbers state → FnOnceTakesAtMut F.FnOnce f state }
-        requires receives { (state : H) → (received : Result (Option B) E) (after : H) → FnOnceReturnsAtMut F.FnOnce f state received after → ReceivesFree B.number B.kind H.steps H.is_free H.names state received after }
-        ensures { MakesCall (H.empty N.limits N.node_id) (Tells H.numbers (λ answer before after. (received : Result (Option B) E) × FnOnceReturnsAtMut F.FnOnce f before received after × IsReceived B.number received answer) result) seat.old seat.new }
+        requires callable { (state : H) → H.names state claimed.now A.kind → 0 < H.numbers state
+            → FnOnceTakesAtMut F.FnOnce f state }
+        requires receives { (state : H) → (received : Result (Option B) E) (after : H)
+            → FnOnceReturnsAtMut F.FnOnce f state received after
+            → ReceivesFree B.number B.kind H.steps H.is_free H.names state received after }
+        ensures { MakesCall (H.empty N.limits N.node_id)
+            (Tells H.numbers (λ answer before after. (received : Result (Option B) E)
+            × FnOnceReturnsAtMut F.FnOnce f before received after × IsReceived B.number received answer) result)
+            seat.old seat.new }
     {
         let mut inside = self.inside.lock(rt);
         let desk = &mut *inside;
@@ -303,18 +320,21 @@ impl<N: Naming, H: Ports> SharedPorts<N, H> {
         told(answer)
     }
 
-    /// Changes what a handle names, which is of the same kind after it.
+    /// Runs a call that changes a handle's message but not the handle's kind.
     #[inline(always)]
-    pub(crate) fn rewritten<R: Wait, A: Handle, U, F: FnOnce(&mut H) -> U>(
+    pub(crate) fn rewritten<A: Handle, U, F: FnOnce(&mut H) -> U>(
         &self,
-        rt: &R,
+        rt: &impl Wait,
         seat: &mut Seat<N, H>,
         claimed: &Claimed<N, A>,
         f: F,
     ) -> U
         requires callable { (state : H) → H.names state claimed.now A.kind → FnOnceTakesAtMut F.FnOnce f state }
-        requires rewrites { (state : H) → (returned : U) (after : H) → FnOnceReturnsAtMut F.FnOnce f state returned after → H.steps (claimed.now ∷ []) state after × H.names after claimed.now A.kind }
-        ensures { MakesCall (H.empty N.limits N.node_id) (λ before after. FnOnceReturnsAtMut F.FnOnce f before result after) seat.old seat.new }
+        requires rewrites { (state : H) → (returned : U) (after : H)
+            → FnOnceReturnsAtMut F.FnOnce f state returned after
+            → H.steps (claimed.now ∷ []) state after × H.names after claimed.now A.kind }
+        ensures { MakesCall (H.empty N.limits N.node_id)
+            (λ before after. FnOnceReturnsAtMut F.FnOnce f before result after) seat.old seat.new }
     {
         let mut inside = self.inside.lock(rt);
         let desk = &mut *inside;
@@ -325,25 +345,23 @@ impl<N: Naming, H: Ports> SharedPorts<N, H> {
         answer
     }
 
-    /// Makes a handle another one, or gives it back, and gives its claim for one on what it is then.
+    /// Runs a call that turns the handle into another kind, or returns it with its error, and replaces its claim.
     #[inline(always)]
-    pub(crate) fn tried<
-        R: Wait,
-        A: Handle,
-        B: Handle,
-        E,
-        F: FnOnce(A, &mut H) -> Result<B, Refused<A, E>>,
-    >(
+    pub(crate) fn tried<A: Handle, B: Handle, E, F: FnOnce(A, &mut H) -> Result<B, Refused<A, E>>>(
         &self,
-        rt: &R,
+        rt: &impl Wait,
         seat: &mut Seat<N, H>,
         claimed: Claimed<N, A>,
         changes: &[Change],
         f: F,
     ) -> Result<Claimed<N, B>, Refused<Claimed<N, A>, E>>
         requires callable { (state : H) → H.names state claimed A.kind → CanTake F.FnOnce A.number f claimed state }
-        requires tries { (state : H) → (made : Result B (Refused A E)) (after : H) → Takes F.FnOnce A.number f claimed state made after → TriesFree A.number B.number A.kind B.kind H.steps H.names claimed state made after }
-        ensures { MakesCall (H.empty N.limits N.node_id) (λ before after. (made : Result B (Refused A E)) × Takes F.FnOnce A.number f claimed before made after × IsTried A.number B.number made result) seat.old seat.new }
+        requires tries { (state : H) → (made : Result B (Refused A E)) (after : H)
+            → Takes F.FnOnce A.number f claimed state made after
+            → TriesFree A.number B.number A.kind B.kind H.steps H.names claimed state made after }
+        ensures { MakesCall (H.empty N.limits N.node_id)
+            (λ before after. (made : Result B (Refused A E)) × Takes F.FnOnce A.number f claimed before made after
+            × IsTried A.number B.number made result) seat.old seat.new }
     {
         let mut inside = self.inside.lock(rt);
         let desk = &mut *inside;
@@ -363,19 +381,23 @@ impl<N: Naming, H: Ports> SharedPorts<N, H> {
         answer
     }
 
-    /// Ends a handle, and gives its claim back, or gives both back.
+    /// Runs a call that consumes the handle, or returns it with its error; the claim goes with the handle.
     #[inline(always)]
-    pub(crate) fn spent<R: Wait, A: Handle, U, E, F: FnOnce(A, &mut H) -> Result<U, Refused<A, E>>>(
+    pub(crate) fn spent<A: Handle, U, E, F: FnOnce(A, &mut H) -> Result<U, Refused<A, E>>>(
         &self,
-        rt: &R,
+        rt: &impl Wait,
         seat: &mut Seat<N, H>,
         claimed: Claimed<N, A>,
         changes: &[Change],
         f: F,
     ) -> Result<U, Refused<Claimed<N, A>, E>>
         requires callable { (state : H) → H.names state claimed A.kind → CanTake F.FnOnce A.number f claimed state }
-        requires spends { (state : H) → (spent : Result U (Refused A E)) (after : H) → Takes F.FnOnce A.number f claimed state spent after → SpendsFree A.number A.kind H.steps H.names claimed state spent after }
-        ensures { MakesCall (H.empty N.limits N.node_id) (λ before after. (spent : Result U (Refused A E)) × Takes F.FnOnce A.number f claimed before spent after × IsSpent A.number spent result) seat.old seat.new }
+        requires spends { (state : H) → (spent : Result U (Refused A E)) (after : H)
+            → Takes F.FnOnce A.number f claimed state spent after
+            → SpendsFree A.number A.kind H.steps H.names claimed state spent after }
+        ensures { MakesCall (H.empty N.limits N.node_id)
+            (λ before after. (spent : Result U (Refused A E)) × Takes F.FnOnce A.number f claimed before spent after
+            × IsSpent A.number spent result) seat.old seat.new }
     {
         let mut inside = self.inside.lock(rt);
         let desk = &mut *inside;

@@ -1,13 +1,11 @@
 //! A shared hub of ports that has no name yet.
 ghost use Rattle.std.specs.Prelude.{◌≡◌};
-ghost use Rattle.rr_shared_ports.specs.Turns.{OpensHub};
+ghost use Rattle.rr_shared_ports.specs.Words.{OpensHub};
 
 use crate::claims::HubKeeper;
 use crate::desk::Desk;
-use crate::naming::Naming;
-use crate::ports::Ports;
-use crate::shared_ports::SharedPorts;
 use crate::waking::Waking;
+use crate::{Header, Naming, Ports, SharedPorts};
 use rr_claims::Keeper;
 use rr_log::{Log, Pen};
 use rr_ports::{BackpressureFn, Body, Hub, HubCreateError, Limits, UniqueNodeId};
@@ -15,8 +13,7 @@ use std::alloc::Global;
 use std::marker::{Model, PhantomData};
 use std::sync::Mutex;
 
-/// A hub without ports, of which nothing is claimed and nothing was called, and which has no name yet. Contracts see which it is. Not in
-/// iceoryx2.
+/// A new hub without ports, claims or calls, which has no name yet. Contracts see its identity. Not in iceoryx2.
 ///
 /// # Examples
 ///
@@ -65,12 +62,11 @@ impl<H: Ports> Model for Opened<H> {
 
     ghost view = { λ o. name o.keeper.id o.log o.limits o.node_id.0 };
 
-    ghost invariant = { λ o. (hub_refusal o.limits ≡ None) × (o.hub ≡ H.empty o.limits o.node_id.0) × (o.keeper.state ≡ o.hub) × (o.pen ≡ whole o.log []) };
+    ghost invariant = { λ o. (hub_refusal o.limits ≡ None) × (o.hub ≡ H.empty o.limits o.node_id.0)
+        × (o.keeper.state ≡ o.hub) × (o.pen ≡ whole o.log []) };
 }
 
-impl<QB: Body, QH: Default + Drop, PB: Body, PH: Default + Drop, K: BackpressureFn> Opened<
-    Hub<QB, QH, PB, PH, K>,
-> {
+impl<QB: Body, QH: Header, PB: Body, PH: Header, K: BackpressureFn> Opened<Hub<QB, QH, PB, PH, K>> {
     /// Makes a hub without ports. Takes no memory. Not in iceoryx2.
     ///
     /// # Errors
@@ -94,7 +90,7 @@ impl<QB: Body, QH: Default + Drop, PB: Body, PH: Default + Drop, K: Backpressure
 }
 
 impl<H: Ports> Opened<H> {
-    /// Returns the hub under a name, which its caller picks. Not in iceoryx2.
+    /// Returns the hub under a name of the caller's choice. Not in iceoryx2.
     pub fn named<N: Naming>(self) -> SharedPorts<N, H>
         requires keeper { self.keeper_id ≡ N.keeper_id }
         requires log { self.log_id ≡ N.log_id }

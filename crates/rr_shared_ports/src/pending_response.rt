@@ -1,36 +1,24 @@
 //! Pending responses of a shared hub.
 ghost use Rattle.std.specs.Prelude.{◌≡◌, ◌↔◌, [], IsSomeAnd, IsTrue, length, nat_lt};
-ghost use Rattle.rr_ports.specs.Facts.{Keeps, Names};
+ghost use Rattle.rr_shared_ports.specs.Words.{Keeps, Names, with_hint, HasResponse, ReceivesResponse, empty_hub, pending_at, with_changed, MakesCall};
 ghost use Rattle.rr_protocol.specs.declared.kind.Kind.TheVariants as kind;
-ghost use Rattle.rr_protocol.specs.Messages.{with_hint};
-ghost use Rattle.rr_protocol.specs.Queries.{HasResponse};
-ghost use Rattle.rr_protocol.specs.Receives.{ReceivesResponse};
-ghost use Rattle.rr_protocol.specs.State.{empty_hub, pending_at, with_changed};
-ghost use Rattle.rr_shared_ports.specs.Turns.{MakesCall};
 
-use crate::claimed::Claimed;
-use crate::naming::Naming;
-use crate::seat::Seat;
-use crate::shared_ports::SharedPorts;
 use crate::waking::Change;
+use crate::{Claimed, Header, Naming, Seat, SharedPorts};
 use rr_ports::{BackpressureFn, Body, Hub, PendingResponse, ReceiveError, Response};
 use std::sync::Wait;
 
 impl<N: Naming, QB: Body> Claimed<N, PendingResponse<QB>> {
-    /// Asks the servers to end the stream. After `PendingResponse::set_disconnect_hint` of `rr_ports`.
-    pub fn set_disconnect_hint<
-        R: Wait,
-        QH: Default + Drop,
-        PB: Body,
-        PH: Default + Drop,
-        K: BackpressureFn,
-    >(
+    /// Sets the disconnect hint, which asks the servers to end the stream. After
+    /// `PendingResponse::set_disconnect_hint` of `rr_ports`.
+    pub fn set_disconnect_hint<QH: Header, PB: Body, PH: Header, K: BackpressureFn>(
         &self,
         hub: &SharedPorts<N, Hub<QB, QH, PB, PH, K>>,
-        rt: &R,
+        rt: &impl Wait,
         seat: &mut Seat<N, Hub<QB, QH, PB, PH, K>>,
     )
-        ensures { MakesCall (empty_hub N.limits N.node_id) (λ before after. after ≡ with_changed before self.now with_hint) seat.old seat.new }
+        ensures { MakesCall (empty_hub N.limits N.node_id)
+            (λ before after. after ≡ with_changed before self.now with_hint) seat.old seat.new }
     {
         let handle = self.handle();
         hub.changed(
@@ -46,20 +34,17 @@ impl<N: Naming, QB: Body> Claimed<N, PendingResponse<QB>> {
         )
     }
 
-    /// Returns whether a connected server may still answer the request. After `PendingResponse::is_connected` of `rr_ports`.
-    pub fn is_connected<
-        R: Wait,
-        QH: Default + Drop,
-        PB: Body,
-        PH: Default + Drop,
-        K: BackpressureFn,
-    >(
+    /// Returns whether a connected server may still answer the request. After `PendingResponse::is_connected` of
+    /// `rr_ports`.
+    pub fn is_connected<QH: Header, PB: Body, PH: Header, K: BackpressureFn>(
         &self,
         hub: &SharedPorts<N, Hub<QB, QH, PB, PH, K>>,
-        rt: &R,
+        rt: &impl Wait,
         seat: &mut Seat<N, Hub<QB, QH, PB, PH, K>>,
     ) -> bool
-        ensures { MakesCall (empty_hub N.limits N.node_id) (λ before after. (after ≡ before) × IsSomeAnd (pending_at before self.now) (λ pending. result ≡ nat_lt 0 (length pending.servers))) seat.old seat.new }
+        ensures { MakesCall (empty_hub N.limits N.node_id)
+            (λ before after. (after ≡ before) × IsSomeAnd (pending_at before self.now)
+            (λ pending. result ≡ nat_lt 0 (length pending.servers))) seat.old seat.new }
     {
         let handle = self.handle();
         hub.looked(
@@ -68,25 +53,23 @@ impl<N: Naming, QB: Body> Claimed<N, PendingResponse<QB>> {
             self,
             |ports| -> bool
                 requires { Names ports.now handle.now kind.PendingResponse }
-                ensures { IsSomeAnd (pending_at ports.now handle.entry.now) (λ pending. result ≡ nat_lt 0 (length pending.servers)) }
+                ensures { IsSomeAnd (pending_at ports.now handle.entry.now)
+                    (λ pending. result ≡ nat_lt 0 (length pending.servers)) }
             { handle.is_connected(ports) },
         )
     }
 
-    /// Returns to how many servers the request was sent. After `PendingResponse::number_of_server_connections` of `rr_ports`.
-    pub fn number_of_server_connections<
-        R: Wait,
-        QH: Default + Drop,
-        PB: Body,
-        PH: Default + Drop,
-        K: BackpressureFn,
-    >(
+    /// Returns how many servers' queues took the request. After `PendingResponse::number_of_server_connections` of
+    /// `rr_ports`.
+    pub fn number_of_server_connections<QH: Header, PB: Body, PH: Header, K: BackpressureFn>(
         &self,
         hub: &SharedPorts<N, Hub<QB, QH, PB, PH, K>>,
-        rt: &R,
+        rt: &impl Wait,
         seat: &mut Seat<N, Hub<QB, QH, PB, PH, K>>,
     ) -> usize
-        ensures { MakesCall (empty_hub N.limits N.node_id) (λ before after. (after ≡ before) × IsSomeAnd (pending_at before self.now) (λ pending. result ≡ pending.connections)) seat.old seat.new }
+        ensures { MakesCall (empty_hub N.limits N.node_id)
+            (λ before after. (after ≡ before) × IsSomeAnd (pending_at before self.now)
+            (λ pending. result ≡ pending.connections)) seat.old seat.new }
     {
         let handle = self.handle();
         hub.looked(
@@ -101,19 +84,15 @@ impl<N: Naming, QB: Body> Claimed<N, PendingResponse<QB>> {
     }
 
     /// Returns whether a response is queued. After `PendingResponse::has_response` of `rr_ports`.
-    pub fn has_response<
-        R: Wait,
-        QH: Default + Drop,
-        PB: Body,
-        PH: Default + Drop,
-        K: BackpressureFn,
-    >(
+    pub fn has_response<QH: Header, PB: Body, PH: Header, K: BackpressureFn>(
         &self,
         hub: &SharedPorts<N, Hub<QB, QH, PB, PH, K>>,
-        rt: &R,
+        rt: &impl Wait,
         seat: &mut Seat<N, Hub<QB, QH, PB, PH, K>>,
     ) -> bool
-        ensures { MakesCall (empty_hub N.limits N.node_id) (λ before after. (after ≡ before) × IsSomeAnd (pending_at before self.now) (λ pending. IsTrue result ↔ HasResponse before pending)) seat.old seat.new }
+        ensures { MakesCall (empty_hub N.limits N.node_id)
+            (λ before after. (after ≡ before) × IsSomeAnd (pending_at before self.now)
+            (λ pending. IsTrue result ↔ HasResponse before pending)) seat.old seat.new }
     {
         let handle = self.handle();
         hub.looked(
@@ -122,7 +101,8 @@ impl<N: Naming, QB: Body> Claimed<N, PendingResponse<QB>> {
             self,
             |ports| -> bool
                 requires { Names ports.now handle.now kind.PendingResponse }
-                ensures { IsSomeAnd (pending_at ports.now handle.entry.now) (λ pending. IsTrue result ↔ HasResponse ports.now pending) }
+                ensures { IsSomeAnd (pending_at ports.now handle.entry.now)
+                    (λ pending. IsTrue result ↔ HasResponse ports.now pending) }
             { handle.has_response(ports) },
         )
     }
@@ -132,13 +112,14 @@ impl<N: Naming, QB: Body> Claimed<N, PendingResponse<QB>> {
     /// # Errors
     ///
     /// As `PendingResponse::receive`.
-    pub fn receive<R: Wait, QH: Default + Drop, PB: Body, PH: Default + Drop, K: BackpressureFn>(
+    pub fn receive<QH: Header, PB: Body, PH: Header, K: BackpressureFn>(
         &self,
         hub: &SharedPorts<N, Hub<QB, QH, PB, PH, K>>,
-        rt: &R,
+        rt: &impl Wait,
         seat: &mut Seat<N, Hub<QB, QH, PB, PH, K>>,
     ) -> Result<Option<Claimed<N, Response<PB>>>, ReceiveError>
-        ensures { MakesCall (empty_hub N.limits N.node_id) (λ before after. ReceivesResponse before self.now result after) seat.old seat.new }
+        ensures { MakesCall (empty_hub N.limits N.node_id)
+            (λ before after. ReceivesResponse before self.now result after) seat.old seat.new }
     {
         let handle = self.handle();
         hub.received(

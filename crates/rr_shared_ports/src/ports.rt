@@ -1,28 +1,7 @@
-//! What a shared hub is to its lock and to its claims.
+//! The requirements of the lock and the claims on a hub.
 use rr_ports::{BackpressureFn, Body, Hub};
 
 /// A hub of ports that can be shared, as `Hub` of `rr_ports` is, of either family. Not in iceoryx2.
-///
-/// # Examples
-///
-/// Tells that two callers have seen one history, at a hub of any type (`rr_test_threads::tests::exchange`):
-///
-/// ```
-/// ghost use Rattle.std.specs.Prelude.{◌⊎◌};
-/// ghost use mathlib.Core.List.{IsPrefix};
-///
-/// use rr_shared_ports::{Naming, Ports};
-///
-/// fn meet<N: Naming, H: Ports>(
-///     hub: &rr_shared_ports::SharedPorts<N, H>,
-///     one: &mut rr_shared_ports::Seat<N, H>,
-///     other: &mut rr_shared_ports::Seat<N, H>,
-/// )
-///     ensures { IsPrefix one.new.1 other.new.1 ⊎ IsPrefix other.new.1 one.new.1 }
-/// {
-///     hub.compare(one, other);
-/// }
-/// ```
 pub trait Ports: Drop {
     ghost use Rattle.std.specs.Prelude.{◌≡◌, ℕ, List, [], ◌∷◌};
     ghost use Rattle.rr_protocol.specs.declared.kind.Kind.{Kind};
@@ -34,7 +13,8 @@ pub trait Ports: Drop {
     /// A number names a port or a handle of this kind.
     ghost names: { Self → ℕ → Kind → Type 0 };
 
-    /// Calls of ports lead from one state to another, and what is known of numbers holds still, but for these.
+    /// Calls of ports lead from one state to another, and known facts about numbers stay true, except for these
+    /// numbers.
     ghost steps: { List ℕ → Self → Self → Type 0 };
 
     /// Nothing is known of a number.
@@ -50,23 +30,31 @@ pub trait Ports: Drop {
     fn numbers_left(&self) -> u64
         ensures { result ≡ numbers self.now };
 
-    /// No call leads from a state to itself.
+    /// A state is reached from itself by no call.
     ghost rests: { (state : Self) → steps [] state state };
 
-    /// What keeps all keeps what numbers name.
-    ghost stays: { (old new : Self) → steps [] old new → (n : ℕ) (kind : Kind) → names old n kind → names new n kind };
+    /// Steps that keep all numbers keep their kinds.
+    ghost stays: { (old new : Self) → steps [] old new → (n : ℕ) (kind : Kind) → names old n kind
+        → names new n kind };
 
-    /// What keeps all but one number keeps what others name.
-    ghost stays_but: { (m : ℕ) (old new : Self) → steps (m ∷ []) old new → (n : ℕ) (kind : Kind) → (n ≡ m → ⊥) → names old n kind → names new n kind };
+    /// Steps that keep all numbers but one keep the kinds of the others.
+    ghost stays_but: { (m : ℕ) (old new : Self) → steps (m ∷ []) old new → (n : ℕ) (kind : Kind) → (n ≡ m → ⊥)
+        → names old n kind → names new n kind };
 
-    /// What keeps all but one number, which names what it named, keeps what numbers name.
-    ghost renewed: { (m : ℕ) (kind : Kind) (old new : Self) → steps (m ∷ []) old new → names old m kind → names new m kind → (n : ℕ) (other : Kind) → names old n other → names new n other };
+    /// Steps that keep all numbers but one, whose kind is unchanged, keep all kinds.
+    ghost renewed: { (m : ℕ) (kind : Kind) (old new : Self) → steps (m ∷ []) old new → names old m kind
+        → names new m kind → (n : ℕ) (other : Kind) → names old n other → names new n other };
 
     /// A free number names nothing.
     ghost unnamed: { (state : Self) (n : ℕ) → is_free state n → (kind : Kind) → names state n kind → ⊥ };
 }
 
-impl<QB: Body, QH: Default + Drop, PB: Body, PH: Default + Drop, K: BackpressureFn> Ports
+/// The bound of user headers: any type with a default value that can be dropped. Not in iceoryx2.
+pub trait Header: Default + Drop {}
+
+impl<T: Default + Drop> Header for T {}
+
+impl<QB: Body, QH: Header, PB: Body, PH: Header, K: BackpressureFn> Ports
     for Hub<QB, QH, PB, PH, K> {
     ghost use Rattle.std.specs.Prelude.{◌≡◌, []};
     ghost use Rattle.rr_protocol.specs.Releases.{after_release};

@@ -1,36 +1,22 @@
 //! Servers of a shared hub.
 ghost use Rattle.std.specs.Prelude.{◌≡◌, ◌<◌, [], IfOk, IfSome, IsOk, ℕ, ◌↔◌, IsTrue};
-ghost use Rattle.rr_ports.specs.Factories.{CreatesServerBy};
-ghost use Rattle.rr_protocol.specs.Settings.{server_defaults};
-ghost use Rattle.rr_protocol.specs.Receives.{ReceivesRequest};
-ghost use Rattle.rr_protocol.specs.State.{empty_hub};
-ghost use Rattle.rr_ports.specs.Facts.{IsFree, Keeps, Names, numbers_left};
+ghost use Rattle.rr_shared_ports.specs.Words.{CreatesServerBy, server_defaults, ReceivesRequest, empty_hub, IsFree, Keeps, Names, numbers_left, Answered, MakesCall, HasRequests};
 ghost use Rattle.rr_protocol.specs.declared.kind.Kind.TheVariants as kind;
-ghost use Rattle.rr_shared_ports.specs.Turns.{Answered, MakesCall};
-ghost use Rattle.rr_protocol.specs.Queries.{HasRequests};
 
-use crate::claimed::Claimed;
-use crate::error::CallError;
-use crate::naming::Naming;
-use crate::seat::Seat;
-use crate::shared_ports::SharedPorts;
 use crate::waking::Change;
+use crate::{CallError, Claimed, Header, Naming, Seat, SharedPorts};
 use rr_ports::{
     ActiveRequest, BackpressureFn, Body, ConnectionFailure, Hub, PortFactoryServer, Preallocation,
     ReceiveError, Server, ServerCreateError, UniqueServerId, WriteBody,
 };
 use std::sync::Wait;
 
-impl<
-    N: Naming,
-    QB: Body,
-    QH: Default + Drop,
-    PB: WriteBody,
-    PH: Default + Drop,
-    K: BackpressureFn,
-> SharedPorts<N, Hub<QB, QH, PB, PH, K>> {
+impl<N: Naming, QB: Body, QH: Header, PB: WriteBody, PH: Header, K: BackpressureFn> SharedPorts<
+    N,
+    Hub<QB, QH, PB, PH, K>,
+> {
     /// Returns a factory of servers with the default settings. After `Hub::server_builder` of `rr_ports`.
-    pub fn server_builder<R: Wait>(&self, rt: &R) -> PortFactoryServer<PB, K>
+    pub fn server_builder(&self, rt: &impl Wait) -> PortFactoryServer<PB, K>
         ensures { result ≡ record { settings = server_defaults; preallocation = tt } }
     {
         self.inside.lock(rt).ports.server_builder()
@@ -41,14 +27,15 @@ impl<
     /// # Errors
     ///
     /// As `PortFactoryServer::create`.
-    pub fn create_server<R: Wait, P: Preallocation + Drop>(
+    pub fn create_server<P: Preallocation + Drop>(
         &self,
-        rt: &R,
+        rt: &impl Wait,
         seat: &mut Seat<N, Hub<QB, QH, PB, PH, K>>,
         factory: PortFactoryServer<PB, K, P>,
     ) -> Result<Claimed<N, Server<PB>>, ServerCreateError>
         requires { (worst_case : ℕ) → P.accepts factory.preallocation worst_case }
-        ensures { MakesCall (empty_hub N.limits N.node_id) (λ before after. CreatesServerBy P.chooses before factory result after) seat.old seat.new }
+        ensures { MakesCall (empty_hub N.limits N.node_id)
+            (λ before after. CreatesServerBy P.chooses before factory result after) seat.old seat.new }
     {
         self.created(
             rt,
@@ -78,13 +65,15 @@ impl<N: Naming, PB: Body> Claimed<N, Server<PB>> {
     ///
     /// - `Port` as `Server::receive`.
     /// - `NumbersExhausted` if no number is left for the active request. Nothing changes.
-    pub fn receive<R: Wait, QB: Body, QH: Default + Drop, PH: Default + Drop, K: BackpressureFn>(
+    pub fn receive<QB: Body, QH: Header, PH: Header, K: BackpressureFn>(
         &self,
         hub: &SharedPorts<N, Hub<QB, QH, PB, PH, K>>,
-        rt: &R,
+        rt: &impl Wait,
         seat: &mut Seat<N, Hub<QB, QH, PB, PH, K>>,
     ) -> Received<N, QB>
-        ensures { MakesCall (empty_hub N.limits N.node_id) (Answered numbers_left (λ received before after. ReceivesRequest before self.now received after) result) seat.old seat.new }
+        ensures { MakesCall (empty_hub N.limits N.node_id)
+            (Answered numbers_left (λ received before after. ReceivesRequest before self.now received after) result)
+            seat.old seat.new }
     {
         let server = self.handle();
         hub.heard(
@@ -98,13 +87,14 @@ impl<N: Naming, PB: Body> Claimed<N, Server<PB>> {
                 ensures receives { ReceivesRequest ports.old server.entry.now result ports.new }
                 ensures keeps { Keeps [] ports.old ports.new }
                 ensures free { IfOk result (λ received. IfSome received (λ active. IsFree [] ports.old active)) }
-                ensures kind { IfOk result (λ received. IfSome received (λ active. Names ports.new active kind.ActiveRequest)) }
+                ensures kind { IfOk result (λ received. IfSome received
+                    (λ active. Names ports.new active kind.ActiveRequest)) }
             { server.receive(ports) },
         )
     }
 }
 
-/// What a receive by a server returns.
+/// The result of a receive by a server.
 type Received<N, QB> = Result<Option<Claimed<N, ActiveRequest<QB>>>, CallError<ReceiveError>>;
 
 impl<N: Naming, PB: Body> Claimed<N, Server<PB>> {
@@ -112,20 +102,16 @@ impl<N: Naming, PB: Body> Claimed<N, Server<PB>> {
     ///
     /// # Errors
     ///
-    /// As `Server::has_requests`: none comes.
-    pub fn has_requests<
-        R: Wait,
-        QB: Body,
-        QH: Default + Drop,
-        PH: Default + Drop,
-        K: BackpressureFn,
-    >(
+    /// As `Server::has_requests`: never returns an error.
+    pub fn has_requests<QB: Body, QH: Header, PH: Header, K: BackpressureFn>(
         &self,
         hub: &SharedPorts<N, Hub<QB, QH, PB, PH, K>>,
-        rt: &R,
+        rt: &impl Wait,
         seat: &mut Seat<N, Hub<QB, QH, PB, PH, K>>,
     ) -> Result<bool, ConnectionFailure>
-        ensures { MakesCall (empty_hub N.limits N.node_id) (λ before after. (after ≡ before) × IsOk result × IfOk result (λ waits. IsTrue waits ↔ HasRequests before self.now)) seat.old seat.new }
+        ensures { MakesCall (empty_hub N.limits N.node_id)
+            (λ before after. (after ≡ before) × IsOk result
+            × IfOk result (λ waits. IsTrue waits ↔ HasRequests before self.now)) seat.old seat.new }
     {
         let handle = self.handle();
         hub.looked(

@@ -3,10 +3,8 @@ ghost use Rattle.std.specs.Prelude.{◌≡◌, ◌≢◌, ◌⊎◌, []};
 ghost use mathlib.Core.List.{IsPrefix};
 
 use crate::desk::Desk;
-use crate::naming::Naming;
-use crate::ports::Ports;
-use crate::seat::Seat;
 use crate::waking::Waking;
+use crate::{Naming, Ports, Seat};
 use rr_log::Log;
 use rr_ports::{Limits, UniqueNodeId};
 use std::marker::{Model, PhantomData};
@@ -14,8 +12,8 @@ use std::sync::Mutex;
 
 /// A hub of ports under a lock, and the log of its calls, which exists in proofs alone.
 ///
-/// Threads share it by reference. Each takes a seat, and calls its ports and handles with the hub, the runtime and the seat. Not in
-/// iceoryx2.
+/// Threads share it by reference. Each takes a seat, and calls its ports and handles with the hub, the runtime and
+/// the seat. Not in iceoryx2.
 ///
 /// # Examples
 ///
@@ -84,7 +82,8 @@ impl<N: Naming, H: Ports> Model for SharedPorts<N, H> {
 
     ghost view = { λ h. tt };
 
-    ghost invariant = { λ h. (h.log ≡ N.log_id) × (h.limits ≡ N.limits) × (h.node_id.0 ≡ N.node_id) × (hub_refusal N.limits ≡ None) };
+    ghost invariant = { λ h. (h.log ≡ N.log_id) × (h.limits ≡ N.limits) × (h.node_id.0 ≡ N.node_id)
+        × (hub_refusal N.limits ≡ None) };
 }
 
 impl<N: Naming, H: Ports> SharedPorts<N, H> {
@@ -102,7 +101,7 @@ impl<N: Naming, H: Ports> SharedPorts<N, H> {
         self.node_id
     }
 
-    /// Makes a seat, which has seen nothing. There may be any number of them. Takes no lock. Not in iceoryx2.
+    /// Makes a seat with an empty history. A hub may have any number of seats. Takes no lock. Not in iceoryx2.
     pub fn seat(&self) -> Seat<N, H>
         ensures { result.1 ≡ [] }
     {
@@ -112,8 +111,8 @@ impl<N: Naming, H: Ports> SharedPorts<N, H> {
         }
     }
 
-    /// Compares what two seats have seen: the history of one of them begins that of the other. They are two callers. Changes nothing, and
-    /// takes no lock. Not in iceoryx2.
+    /// Proves that the histories of two seats agree: one is a prefix of the other, and the seats are two callers.
+    /// Changes nothing, and takes no lock. Not in iceoryx2.
     pub fn compare(&self, one: &mut Seat<N, H>, other: &mut Seat<N, H>)
         ensures same { (one.new ≡ one.old) × (other.new ≡ other.old) }
         ensures begins { IsPrefix one.new.1 other.new.1 ⊎ IsPrefix other.new.1 one.new.1 }

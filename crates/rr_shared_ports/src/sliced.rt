@@ -1,11 +1,9 @@
 //! The sliced family, in which each message is a slice.
 mod active_request;
 mod client;
-mod request_mut_uninit;
+mod parts;
 mod response;
-mod response_mut_uninit;
-mod write_request;
-mod write_response;
+mod writing;
 
 /// A shared hub whose requests and responses are slices.
 pub type SharedPorts<N, Q, QH, P, PH, K = rr_ports::NoHandler> = crate::SharedPorts<

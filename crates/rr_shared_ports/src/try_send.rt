@@ -1,18 +1,12 @@
-//! Sends that give the message back where they are refused.
+//! Sends that return the message on a refusal.
 #![tactic(auto, using(rr_ports::proofs::Frames::callers), unfolding(rr_ports::specs::Facts::Keeps))]
 
 ghost use Rattle.std.specs.Prelude.{◌≡◌, ◌∷◌, [], IfErr, IfOk};
-ghost use Rattle.rr_ports.specs.Facts.{Keeps, Names};
+ghost use Rattle.rr_shared_ports.specs.Words.{Keeps, Names, empty_hub, MakesCall, TriesRequest, TriesResponse};
 ghost use Rattle.rr_protocol.specs.declared.kind.Kind.TheVariants as kind;
-ghost use Rattle.rr_protocol.specs.State.{empty_hub};
-ghost use Rattle.rr_shared_ports.specs.Turns.{MakesCall};
-ghost use Rattle.rr_shared_ports.specs.Tries.{TriesRequest, TriesResponse};
 
-use crate::claimed::Claimed;
-use crate::naming::Naming;
-use crate::seat::Seat;
-use crate::shared_ports::SharedPorts;
 use crate::waking::Change;
+use crate::{Claimed, Header, Naming, Seat, SharedPorts};
 use rr_ports::{
     BackpressureFn, Body, Hub, PendingResponse, Refused, RequestMut, RequestSendError, ResponseMut,
     SendError,
@@ -20,22 +14,23 @@ use rr_ports::{
 use std::sync::Wait;
 
 impl<N: Naming, QB: Body> Claimed<N, RequestMut<QB>> {
-    /// Sends the request as `send` does, or gives it back with what it says, so that nothing is lost. After `RequestMut::try_send` of
+    /// Sends the request as `send` does, or returns it with its content on a refusal. After `RequestMut::try_send` of
     /// `rr_ports`.
     ///
     /// # Errors
     ///
     /// As `RequestMut::try_send`: `message` is the request, and `error` as `send`.
-    pub fn try_send<R: Wait, QH: Default + Drop, PB: Body, PH: Default + Drop, K: BackpressureFn>(
+    pub fn try_send<QH: Header, PB: Body, PH: Header, K: BackpressureFn>(
         self,
         hub: &SharedPorts<N, Hub<QB, QH, PB, PH, K>>,
-        rt: &R,
+        rt: &impl Wait,
         seat: &mut Seat<N, Hub<QB, QH, PB, PH, K>>,
     ) -> Result<
         Claimed<N, PendingResponse<QB>>,
         Refused<Claimed<N, RequestMut<QB>>, RequestSendError>,
     >
-        ensures { MakesCall (empty_hub N.limits N.node_id) (λ before after. TriesRequest K.action before self result after) seat.old seat.new }
+        ensures { MakesCall (empty_hub N.limits N.node_id)
+            (λ before after. TriesRequest K.action before self result after) seat.old seat.new }
     {
         hub.tried(
             rt,
@@ -50,26 +45,28 @@ impl<N: Naming, QB: Body> Claimed<N, RequestMut<QB>> {
                 ensures call { TriesRequest K.action ports.old handle result ports.new }
                 ensures keeps { Keeps (handle ∷ []) ports.old ports.new }
                 ensures made { IfOk result (λ made. (made ≡ handle) × Names ports.new made kind.PendingResponse) }
-                ensures kept { IfErr result (λ refused. (refused.message ≡ handle) × Names ports.new handle kind.RequestMut) }
+                ensures kept { IfErr result (λ refused. (refused.message ≡ handle)
+                    × Names ports.new handle kind.RequestMut) }
             { handle.try_send(ports) },
         )
     }
 }
 
 impl<N: Naming, PB: Body> Claimed<N, ResponseMut<PB>> {
-    /// Sends the response as `send` does, or gives it back with what it says, so that nothing is lost. After `ResponseMut::try_send` of
-    /// `rr_ports`.
+    /// Sends the response as `send` does, or returns it with its content on a refusal. After `ResponseMut::try_send`
+    /// of `rr_ports`.
     ///
     /// # Errors
     ///
     /// As `ResponseMut::try_send`: `message` is the response, and `error` is `UnableToDeliver`.
-    pub fn try_send<R: Wait, QB: Body, QH: Default + Drop, PH: Default + Drop, K: BackpressureFn>(
+    pub fn try_send<QB: Body, QH: Header, PH: Header, K: BackpressureFn>(
         self,
         hub: &SharedPorts<N, Hub<QB, QH, PB, PH, K>>,
-        rt: &R,
+        rt: &impl Wait,
         seat: &mut Seat<N, Hub<QB, QH, PB, PH, K>>,
     ) -> Result<(), Refused<Claimed<N, ResponseMut<PB>>, SendError>>
-        ensures { MakesCall (empty_hub N.limits N.node_id) (λ before after. TriesResponse K.action before self result after) seat.old seat.new }
+        ensures { MakesCall (empty_hub N.limits N.node_id)
+            (λ before after. TriesResponse K.action before self result after) seat.old seat.new }
     {
         hub.spent(
             rt,
@@ -80,7 +77,8 @@ impl<N: Naming, PB: Body> Claimed<N, ResponseMut<PB>> {
                 requires { Names ports.old handle kind.ResponseMut }
                 ensures call { TriesResponse K.action ports.old handle result ports.new }
                 ensures keeps { Keeps (handle ∷ []) ports.old ports.new }
-                ensures kept { IfErr result (λ refused. (refused.message ≡ handle) × Names ports.new handle kind.ResponseMut) }
+                ensures kept { IfErr result (λ refused. (refused.message ≡ handle)
+                    × Names ports.new handle kind.ResponseMut) }
             { handle.try_send(ports) },
         )
     }

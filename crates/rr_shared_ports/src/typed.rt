@@ -2,12 +2,9 @@
 mod active_request;
 mod client;
 mod exchange;
-mod fold;
-mod pending_response;
-mod request_mut_uninit;
+mod receiving;
 mod response;
-mod response_mut_uninit;
-mod server;
+mod writing;
 
 /// A shared hub whose requests and responses are single values.
 pub type SharedPorts<N, Q, QH, P, PH, K = rr_ports::NoHandler> = crate::SharedPorts<

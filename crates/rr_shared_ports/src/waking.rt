@@ -1,9 +1,9 @@
 //! Waits: which change of a hub may end which wait, and how a thread sleeps and is woken.
 ghost use Rattle.std.specs.Prelude.{IfErr};
-ghost use Rattle.rr_shared_ports.specs.Waits.{IsOver};
+ghost use Rattle.rr_shared_ports.specs.Words.{IsOver};
 
+use crate::WaitError;
 use crate::deadline::Deadline;
-use crate::error::WaitError;
 use std::fmt::Display;
 use std::hint::spin_loop;
 use std::sync::atomic::{AtomicBool, AtomicU64, Ordering};
@@ -13,7 +13,8 @@ use std::time::Duration;
 /// How often a sole waiter polls before it sleeps.
 const LOOKS: u64 = 256;
 
-/// What a call may have changed. Every call of a hub names its changes, and `Waking::wake` says which waits each of them may end.
+/// A change that a call may have made. Every call of a hub names its changes; `Waking::wake` says which waits each
+/// change may end.
 #[derive(Clone, Copy)]
 pub(crate) enum Change {
     /// A request was queued for a server.
@@ -22,17 +23,18 @@ pub(crate) enum Change {
     ResponseQueued,
     /// An entry was taken out of a queue.
     EntryTaken,
-    /// A pending response ended, and with it the queues of its responses. A client leaves after its pending responses, so that its end
-    /// ends no other wait.
+    /// A pending response ended, and with it the queues of its responses. A client leaves after its pending
+    /// responses, so its release ends no further wait.
     PendingResponseEnded,
-    /// An active request ended: its server answers it no more.
+    /// An active request ended: its server no longer answers it.
     ActiveRequestEnded,
-    /// A server, or a handle of it, ended. If it was the last one, the server left: its queues are gone, and it answers no more.
+    /// A server, or a handle of it, ended. If it was the last one, the server left: its queues are removed, and it no
+    /// longer answers.
     ServerLeft,
 }
 
-/// The threads that wait: servers for requests, pending responses for responses, and senders for room in a queue. No contract says that
-/// they are woken.
+/// The threads that wait: servers for requests, pending responses for responses, and senders for room in a queue. No
+/// contract says that they are woken.
 #[derive(Drop)]
 pub(crate) struct Waking {
     pub(crate) requests: Sleepers,
@@ -42,7 +44,7 @@ pub(crate) struct Waking {
 }
 
 impl Waking {
-    /// Nobody sleeps, and nothing is closed.
+    /// Makes the state of an open hub without waiters.
     pub(crate) fn new() -> Waking {
         Waking {
             requests: Sleepers::new(),
@@ -52,8 +54,9 @@ impl Waking {
         }
     }
 
-    /// Wakes those whose waits these changes may end: a server waits until a request is queued; a pending response until a response is
-    /// queued or no server may answer; a sender until its message finds room or its receiver is gone.
+    /// Wakes the threads whose waits these changes may end. A server waits until a request is queued; a pending
+    /// response until a response is queued or no server may answer; a sender until the queue has room or its receiver
+    /// has left.
     pub(crate) fn wake(&self, changes: &[Change]) {
         for change in changes {
             match change {
@@ -76,7 +79,7 @@ impl Waking {
         self.room.wake();
     }
 
-    /// Returns for how long a wait may sleep if nothing has come.
+    /// Returns how long a wait may sleep before its next poll.
     ///
     /// # Errors
     ///
@@ -101,10 +104,11 @@ impl Waking {
 
 /// The threads that wait for one kind of change.
 ///
-/// A waiter registers before it checks the queue under the lock; a notifier checks for waiters after it has changed the queue. So at least
-/// one of them sees the other. A sleeper sets `is_asleep` before it reads `turns` again; a notifier advances `turns` before it clears
-/// `is_asleep`. A sleeper reads the notification count before it sets `is_asleep`, and whoever clears `is_asleep` then notifies. So no
-/// wake-up is lost, and a thread that was notified but has not run yet is not notified twice.
+/// A waiter registers before it checks the queue under the lock; a notifier checks for waiters after it has changed
+/// the queue. So at least one of them sees the other. A sleeper sets `is_asleep` before it reads `turns` again; a
+/// notifier advances `turns` before it clears `is_asleep`. A sleeper reads the notification count before it sets
+/// `is_asleep`, and whoever clears `is_asleep` then notifies. So no wake-up is lost, and a thread that was notified
+/// but has not run yet is not notified twice.
 #[derive(Drop)]
 pub(crate) struct Sleepers {
     inside: AtomicU64,
@@ -123,13 +127,13 @@ impl Sleepers {
         }
     }
 
-    /// Registers a waiter, until what this returns is dropped.
+    /// Registers a waiter until the returned `Waiter` is dropped.
     pub(crate) fn enter(&self) -> Waiter<'_> {
         self.inside.fetch_add(1, Ordering::SeqCst);
         Waiter { among: self }
     }
 
-    /// Returns how often the waiters were woken.
+    /// Returns the wake-up count of the waiters.
     pub(crate) fn turns(&self) -> u64 {
         self.turns.load(Ordering::SeqCst)
     }
@@ -145,9 +149,9 @@ impl Sleepers {
         }
     }
 
-    /// Sleeps until `turns` changes or `most` has passed. A sole waiter polls a few times first; several of them would keep the threads
-    /// that they wait for from the processors.
-    pub(crate) fn wait<R: Wait>(&self, rt: &R, turns: u64, most: Duration) {
+    /// Sleeps until `turns` changes or `most` has passed. A sole waiter polls a few times first; several polling
+    /// waiters would starve the threads that they wait for.
+    pub(crate) fn wait(&self, rt: &impl Wait, turns: u64, most: Duration) {
         if self.were_woken(turns) {
             return;
         }

@@ -1,4 +1,4 @@
--- What a body ends as, once a `&mut` to its elements has ended.
+-- The final value of a body, once a `&mut` to its elements has ended.
 use Rattle.std.specs.Prelude.{List, length}
 use Rattle.std.specs.List.{refill}
 use Rattle.rr_slots.specs.Elements.{SliceState}

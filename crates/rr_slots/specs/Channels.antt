@@ -1,4 +1,4 @@
--- What contracts see of the channels of a client.
+-- The channels of a client, as contracts see them.
 use Rattle.std.specs.Prelude.{ℕ, Bool, false, ◌&&◌, ◌||◌, ◌==◌, if◌then◌else◌, List, slice_get, slice_set}
 use Rattle.std.specs.Option.{option_map_or}
 use Rattle.rr_slots.specs.declared.channel_table.Channel.{Channel}
@@ -26,8 +26,9 @@ is_hinted id (Open other hint) = other == id && hint
 
 -- the channels after one of them changed
 abbrev pub with_changed_at : List Channel → ℕ → (Channel → Channel) → List Channel
-with_changed_at channels index change = option_map_or (λ channel. slice_set channels index (change channel)) (slice_get channels index) channels
+with_changed_at channels index change =
+    option_map_or (λ channel. slice_set channels index (change channel)) (slice_get channels index) channels
 
--- what a test says of one of them
+-- the result of a test for one of them
 abbrev pub is_at : List Channel → ℕ → (Channel → Bool) → Bool
 is_at channels index test = option_map_or test (slice_get channels index) false

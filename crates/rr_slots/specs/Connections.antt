@@ -1,4 +1,4 @@
--- What contracts see of the queues from one port to another.
+-- The queues from one port to another, as contracts see them.
 use Rattle.std.specs.Prelude.{◌≡◌, ◌≤◌, ℕ, Bool, true, false, ◌==◌, if◌then◌else◌, List, [], ◌∷◌, ◌++◌, Option, None, length, drop, map, replicate, slice_get, slice_set, slice_index_or, All}
 use Rattle.circular_buffer.specs.Buffer.{Buffer}
 
@@ -11,7 +11,7 @@ pub record Entries : Type 0 where
 abbrev pub entries : List (List ℕ) → ℕ → Entries
 entries queues capacity = record { queues = queues; capacity = capacity }
 
--- so many channels with no entry
+-- this number of channels without entries
 abbrev pub no_entries : ℕ → ℕ → Entries
 no_entries channels capacity = entries (replicate channels []) capacity
 
@@ -23,7 +23,7 @@ queue_of state channel = slice_index_or state.queues channel []
 abbrev pub with_queue : Entries → ℕ → List ℕ → Entries
 with_queue state channel queue = record state { queues = slice_set state.queues channel queue }
 
--- whether a queue has as many entries as it can
+-- whether a queue is full
 abbrev pub is_full : ℕ → List ℕ → Bool
 is_full capacity queue = length queue == capacity
 
@@ -32,12 +32,13 @@ abbrev pub has_entries : List ℕ → Bool
 has_entries [] = false
 has_entries (entry ∷ queue) = true
 
--- a queue after an entry came to its end: a full one gave up its first, which is the entry itself where it has no room at all
+-- a queue after an entry came to its end: a full one gave up its first, which is the entry itself where it has no
+-- room at all
 abbrev pub pushed : ℕ → List ℕ → ℕ → List ℕ
 pushed capacity queue entry =
     if is_full capacity queue then drop 1 (queue ++ entry ∷ []) else queue ++ entry ∷ []
 
--- what a queue gives up for an entry: a full one its first, and another nothing
+-- the entry that a full queue gives up for a new one: the first, which at capacity 0 is the new one; otherwise none
 abbrev pub evicted : ℕ → List ℕ → ℕ → Option ℕ
 evicted capacity queue entry =
     if is_full capacity queue then slice_get (queue ++ entry ∷ []) 0 else None

@@ -1,15 +1,15 @@
--- The lengths that bodies of a family can be asked for.
+-- The lengths that bodies of a family can have.
 use Rattle.std.specs.Prelude.{◌≡◌, ⊤, ℕ, Bool, true, ◌==◌}
 use Rattle.std.proofs.Common.{subst}
 use Rattle.rr_slots.specs.declared.family.Family.{Family}
 use Rattle.rr_slots.specs.declared.family.Family.TheVariants.{Typed, Sliced}
 
--- whether a body can be asked for this many elements: for one in the typed family, for any number in the sliced one
+-- whether a body can be loaned for this many elements: for one in the typed family, for any number in the sliced one
 abbrev pub takes_len : Family → ℕ → Bool
 takes_len Typed len = len == 1
 takes_len Sliced len = true
 
--- whether a family is the sliced one, by which the two are told apart
+-- whether a family is the sliced one, which distinguishes the two
 abbrev IsSliced : Family → Type 0
 IsSliced Typed = ⊥
 IsSliced Sliced = ⊤

@@ -1,7 +1,7 @@
 -- How many hold each slot.
 use Rattle.std.specs.Prelude.{ℕ, ◌==◌, not, List, count_by}
 
--- how many hold each slot, the slot to be taken next if one is free, and how often one was looked at
+-- the number of holders of each slot, the slot to be taken next if one is free, and the number of accesses
 pub record Counts : Type 0 where
   pub holders : List ℕ
   pub first : ℕ

@@ -1,13 +1,14 @@
--- What contracts see of a pool.
+-- Pools as contracts see them.
 use Rattle.std.specs.Prelude.{ℕ, ◌+◌, ◌-◌, ◌==◌, not, if◌then◌else◌, List, [], ◌∷◌, ◌++◌, count_by, length, ◌≡◌, replicate, slice_index, slice_index_or, slice_set, refl}
 use Rattle.std.specs.Coded.{Coded, code_by, coded×, coded_list, coded_ℕ}
 
--- what stands in a slot: for how many elements it asks, and those written
+-- the content of a slot: the loaned length, and the elements written
 pub record Written (T : Type 0) : Type 0 where
   pub asked_len : ℕ
   pub elements : List T
 
--- what stands in each slot, how many hold each, for how many elements each has room, and how often a slot's holders were looked at
+-- the contents of the slots, the number of holders of each, the room of each in elements, and the number of accesses
+-- to holders
 pub record Slots (T : Type 0) : Type 0 where
   pub contents : List (Written T)
   pub holders : List ℕ
@@ -15,12 +16,16 @@ pub record Slots (T : Type 0) : Type 0 where
   pub looks : ℕ
 
 abbrev pub written_code : {T : Type 0} → Coded T → Coded (Written T)
-written_code t = code_by (ℕ × List _) (coded× coded_ℕ (coded_list t)) (λ w. (w.asked_len, w.elements)) (λ p. record { asked_len = p.0; elements = p.1 }) (λ _. refl)
+written_code t =
+    code_by (ℕ × List _) (coded× coded_ℕ (coded_list t)) (λ w. (w.asked_len, w.elements))
+    (λ p. record { asked_len = p.0; elements = p.1 }) (λ _. refl)
 
 abbrev pub slots_code : {T : Type 0} → Coded T → Coded (Slots T)
 slots_code t =
-    code_by (List (Written _) × (List ℕ × (ℕ × ℕ))) (coded× (coded_list (written_code t)) (coded× (coded_list coded_ℕ) (coded× coded_ℕ coded_ℕ)))
-    (λ p. (p.contents, (p.holders, (p.room, p.looks)))) (λ p. record { contents = p.0; holders = p.1.0; room = p.1.1.0; looks = p.1.1.1 }) (λ _. refl)
+    code_by (List (Written _) × (List ℕ × (ℕ × ℕ)))
+    (coded× (coded_list (written_code t)) (coded× (coded_list coded_ℕ) (coded× coded_ℕ coded_ℕ)))
+    (λ p. (p.contents, (p.holders, (p.room, p.looks))))
+    (λ p. record { contents = p.0; holders = p.1.0; room = p.1.1.0; looks = p.1.1.1 }) (λ _. refl)
 
 -- a body of which two functions tell the asked length and the elements
 abbrev pub written : {B T : Type 0} → (B → ℕ) → (B → List T) → B → Written T
@@ -39,7 +44,7 @@ module _ {T : Type 0} where
   abbrev pub with_elements : List T → Written T → Written T
   with_elements items w = record w { elements = items }
 
-  -- as many elements as are asked for, each this one
+  -- as many copies of this element as were loaned
   abbrev pub filled : T → Written T → Written T
   filled element w = with_elements (replicate w.asked_len element) w
 
@@ -47,27 +52,40 @@ module _ {T : Type 0} where
   abbrev pub with_element_at : ℕ → T → Written T → Written T
   with_element_at index item w = record w { elements = slice_set w.elements index item }
 
-  -- slots that nobody holds, each with room for so many elements
+  -- free slots, each with room for this many elements
   abbrev pub free_slots : ℕ → ℕ → Slots T
-  free_slots slots room = record { contents = replicate slots (nothing_written room); holders = replicate slots 0; room = room; looks = 0 }
+  free_slots slots room =
+      record {
+        contents = replicate slots (nothing_written room);
+        holders = replicate slots 0;
+        room = room;
+        looks = 0;
+      }
 
-  -- a slot is held once, and asks for so many elements
+  -- after a slot was acquired, held once, for this many elements
   abbrev pub acquired : Slots T → ℕ → ℕ → Slots T
-  acquired p slot len = record { contents = slice_set p.contents slot (nothing_written len); holders = slice_set p.holders slot 1; room = p.room; looks = p.looks + 2 }
+  acquired p slot len =
+      record {
+        contents = slice_set p.contents slot (nothing_written len);
+        holders = slice_set p.holders slot 1;
+        room = p.room;
+        looks = p.looks + 2;
+      }
 
-  -- one more holds a slot
+  -- after a slot got one more holder
   abbrev pub held_once_more : Slots T → ℕ → Slots T
-  held_once_more p slot = record p { holders = slice_set p.holders slot (slice_index p.holders slot + 1); looks = p.looks + 2 }
+  held_once_more p slot =
+      record p { holders = slice_set p.holders slot (slice_index p.holders slot + 1); looks = p.looks + 2 }
 
-  -- no elements, of which as many are asked for as before
+  -- no elements, with the loaned length unchanged
   abbrev pub emptied : Written T → Written T
   emptied w = with_elements [] w
 
-  -- what stands in a slot; nothing where there is no such slot
+  -- the content of a slot; nothing if there is no such slot
   abbrev pub content_at : Slots T → ℕ → Written T
   content_at p slot = slice_index_or p.contents slot (nothing_written 0)
 
-  -- one less holds a slot, in which nothing stands once nobody holds it
+  -- after a slot lost one holder, and its content with the last one
   abbrev pub given_back : Slots T → ℕ → Slots T
   given_back p slot =
       let left = slice_index p.holders slot - 1 in
@@ -77,14 +95,15 @@ module _ {T : Type 0} where
         looks = p.looks + 2;
       }
 
-  -- what stands in one slot changed
+  -- after the content of one slot changed
   abbrev pub with_changed_at : Slots T → ℕ → (Written T → Written T) → Slots T
   with_changed_at p slot change = record p { contents = slice_set p.contents slot (change (content_at p slot)) }
 
-  -- what stands in one slot became complete, by whatever elements
+  -- after the content of one slot became complete, with unspecified elements
   abbrev pub CompletesAt : Slots T → ℕ → Slots T → Type 0
   CompletesAt old slot new =
-      (elements : List T) × (length elements ≡ (content_at old slot).asked_len) × (new ≡ with_changed_at old slot (with_elements elements))
+      (elements : List T) × (length elements ≡ (content_at old slot).asked_len)
+      × (new ≡ with_changed_at old slot (with_elements elements))
 
   -- how many slots nobody holds
   abbrev pub free_count : Slots T → ℕ

@@ -2,7 +2,7 @@
 use Rattle.std.specs.Prelude.{◌≡◌, zero, suc, ℕ, ◌+◌, ◌-◌, cond, ◌==◌, List, [], ◌∷◌, ◌++◌, map, count_by, slice_index_or}
 use Rattle.rr_slots.specs.declared.slot.Slot.{Slot}
 
--- slots, and how often one of them was looked at
+-- slots, and the number of accesses to them
 pub record Watched : Type 0 where
   pub slots : List Slot
   pub looks : ℕ
@@ -10,7 +10,7 @@ pub record Watched : Type 0 where
 abbrev pub watched : List Slot → ℕ → Watched
 watched slots looks = record { slots = slots; looks = looks }
 
--- a slot that so many hold, before this one
+-- a slot with this many holders, before this one in the list
 abbrev pub slot_with : ℕ → ℕ → Slot
 slot_with holders next = record { holders = holders; next = next }
 
@@ -32,7 +32,7 @@ abbrev pub thread : List ℕ → ℕ → ℕ → List ℕ
 thread nexts first zero = []
 thread nexts first (suc n) = first ∷ thread nexts (slice_index_or nexts first 0) n
 
--- how often i stands in the list
+-- how often i occurs in the list
 abbrev pub times : ℕ → List ℕ → ℕ
 times i [] = 0
 times i (x ∷ xs) = cond (x == i) 1 0 + times i xs
@@ -41,7 +41,7 @@ times i (x ∷ xs) = cond (x == i) 1 0 + times i xs
 abbrev pub is_zero : ℕ → ℕ
 is_zero n = cond (n == 0) 1 0
 
--- from first on, the numbers lead once through each slot that nobody holds, and through no other
+-- from first on, the numbers lead once through each free slot, and through no other
 pub record LeadsThroughFree (holders nexts : List ℕ) (first free : ℕ) : Type 0 where
   pub stored : free ≡ count_by (λ h. h == 0) holders
   pub each_once : (i : ℕ) → times i (thread nexts first free) ≡ is_zero (slice_index_or holders i 1)

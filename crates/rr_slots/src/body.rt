@@ -1,4 +1,4 @@
-//! What a message holds: elements, written up to a length that was asked for.
+//! Bodies of messages: elements, written up to the length of the loan.
 ghost use Rattle.std.specs.Prelude.{◌≡◌, ◌<◌, ◌≤◌, ◌↔◌, [], ◌∷◌, ◌++◌, length, slice_get, IsTrue, IsOk, OnOk, OnErr, IfOk};
 ghost use Rattle.std.specs.Borrow.{sem, Lends};
 
@@ -7,7 +7,7 @@ use std::alloc::{AllocError, Global};
 
 /// A list of elements with an asked length, and room for a number of elements, which no call lowers.
 ///
-/// Not in iceoryx2: it stands for a payload that is being written, which iceoryx2 hands out as `MaybeUninit`.
+/// Not in iceoryx2: it replaces a payload that is being written, which iceoryx2 hands out as `MaybeUninit`.
 pub trait Body: Drop {
     ghost use Rattle.std.specs.Prelude.{ℕ, List};
     ghost use Rattle.rr_slots.specs.declared.family.Family.{Family};
@@ -18,7 +18,7 @@ pub trait Body: Drop {
     /// The family of every body of this type.
     ghost family: { Family };
 
-    /// How many elements are asked for.
+    /// The length of the loan, in elements.
     ghost asked_len: { Self → ℕ };
 
     /// How many elements fit without further memory.
@@ -27,17 +27,17 @@ pub trait Body: Drop {
     /// The elements written so far.
     ghost elements: { Self → List Self.Item };
 
-    /// How many elements are asked for.
+    /// Returns the length of the loan, in elements.
     fn asked_len(&self) -> usize
         ensures { result ≡ asked_len self.now };
 
-    /// Drops the elements. As many are asked for as before.
+    /// Drops the elements. The length of the loan stays.
     fn clear(&mut self)
         ensures empty { elements self.new ≡ [] }
         ensures asked { asked_len self.new ≡ asked_len self.old }
         ensures room { room self.new ≡ room self.old };
 
-    /// No body of the typed family has more than one element.
+    /// A body of the typed family has at most one element.
     ghost holds_one: { (body : Self) → family ≡ Family.Typed → length (elements body) ≤ 1 };
 }
 
@@ -53,8 +53,8 @@ pub trait WriteBody: Body {
     fn family() -> Family
         ensures { result ≡ Self.family };
 
-    /// An empty body that asks for `len` elements and has room for them. `len` is a length that the family takes. `Err` if
-    /// memory was refused.
+    /// An empty body that asks for `len` elements and has room for them. `len` is a length that the family takes.
+    /// `Err` if memory was refused.
     fn new(alloc: Global, len: usize) -> Result<Self, AllocError>
         requires { IsTrue (takes_len Self.family len) }
         ensures asked { IfOk result (λ body. Self.asked_len body ≡ len) }
@@ -82,12 +82,12 @@ pub trait WriteBody: Body {
         ensures asked { Self.asked_len self.new ≡ Self.asked_len self.old }
         ensures room { Self.room self.new ≡ Self.room self.old };
 
-    /// Whether as many elements are there as are asked for.
+    /// Returns whether all elements of the loan were written.
     fn is_complete(&self) -> bool
         ensures complete { IsTrue result ↔ (length (Self.elements self.now) ≡ Self.asked_len self.now) }
         ensures open { ¬ IsTrue result → length (Self.elements self.now) < Self.asked_len self.now };
 
-    /// How many elements are there.
+    /// Returns how many elements were written.
     fn len(&self) -> usize
         ensures { result ≡ length (Self.elements self.now) };
 
@@ -103,26 +103,29 @@ pub trait WriteBody: Body {
         ensures value { slice_get (Self.elements self.old) index ≡ Some result.now };
 
     /// A write at a place replaces that element, and no other.
-    ghost sets_one_element: { (body : Self) (index : ℕ) (item : Self.Item) → Self.elements (with_element_at body index item) ≡ slice_set (Self.elements body) index item };
+    ghost sets_one_element: { (body : Self) (index : ℕ) (item : Self.Item)
+        → Self.elements (with_element_at body index item) ≡ slice_set (Self.elements body) index item };
 
-    /// It asks for as many elements as before.
-    ghost keeps_asked_len: { (body : Self) (index : ℕ) (item : Self.Item) → Self.asked_len (with_element_at body index item) ≡ Self.asked_len body };
+    /// The loaned length is unchanged.
+    ghost keeps_asked_len: { (body : Self) (index : ℕ) (item : Self.Item)
+        → Self.asked_len (with_element_at body index item) ≡ Self.asked_len body };
 
     /// It keeps the room.
-    ghost keeps_room: { (body : Self) (index : ℕ) (item : Self.Item) → Self.room (with_element_at body index item) ≡ Self.room body };
+    ghost keeps_room: { (body : Self) (index : ℕ) (item : Self.Item)
+        → Self.room (with_element_at body index item) ≡ Self.room body };
 }
 
 /// A body whose elements can be copied.
 pub trait FillBody: WriteBody {
     ghost use Rattle.std.specs.Prelude.{length, replicate};
 
-    /// Makes an element each of those that are asked for. Old ones are dropped.
+    /// Fills the body with copies of one element. Old elements are dropped.
     fn fill(&mut self, element: Self::Item)
         ensures elements { Self.elements self.new ≡ replicate (Self.asked_len self.old) element }
         ensures asked { Self.asked_len self.new ≡ Self.asked_len self.old }
         ensures room { Self.room self.old ≤ Self.room self.new };
 
-    /// Makes copies of these its elements, of which there are as many as are asked for. Old ones are dropped.
+    /// Copies these elements, which must be as many as were loaned, into the body. Old elements are dropped.
     fn copy(&mut self, elements: &[Self::Item])
         requires { length elements.now ≡ Self.asked_len self.old }
         ensures elements { Self.elements self.new ≡ elements.now }
@@ -130,11 +133,12 @@ pub trait FillBody: WriteBody {
         ensures room { Self.room self.old ≤ Self.room self.new };
 }
 
-/// A body whose memory keeps what was written there, from message to message.
+/// A body whose memory keeps its old elements from message to message.
 pub trait KeepBody: WriteBody {
     ghost use Rattle.std.specs.Prelude.{length};
 
-    /// Makes the body complete, by whatever elements: by those that stand in its memory, where nothing is filled.
+    /// Makes the body complete with unspecified elements: those that its memory holds, without a fill if it holds
+    /// enough.
     fn complete(&mut self)
         ensures len { length (Self.elements self.new) ≡ Self.asked_len self.old }
         ensures asked { Self.asked_len self.new ≡ Self.asked_len self.old }
@@ -147,7 +151,7 @@ pub trait LendBody: Body {
     ghost use Rattle.std.specs.List.{refill};
     ghost use Rattle.std.specs.Borrow.{Array};
 
-    /// The body after its elements became others, of which there are as many.
+    /// The body after its elements were replaced by as many others.
     ghost with_items: { Self → List Self.Item → Self };
 
     /// Lends the elements written so far.
@@ -155,12 +159,15 @@ pub trait LendBody: Body {
         ensures* lends { sem 𝓛 (Lends Self.row (Array Self.Item.row 0) self.entry result (with_items self.old)) }
         ensures value { result.now ≡ Self.elements self.old };
 
-    /// What is written there is what the elements are then.
-    ghost sets_items: { (body : Self) (items : List Self.Item) → Self.elements (with_items body items) ≡ refill (length (Self.elements body)) (Self.elements body) items };
+    /// After `with_items` the elements are the given ones.
+    ghost sets_items: { (body : Self) (items : List Self.Item)
+        → Self.elements (with_items body items) ≡ refill (length (Self.elements body)) (Self.elements body) items };
 
-    /// It asks for as many elements as before.
-    ghost asks_as_before: { (body : Self) (items : List Self.Item) → Self.asked_len (with_items body items) ≡ Self.asked_len body };
+    /// The loaned length is unchanged.
+    ghost asks_as_before: { (body : Self) (items : List Self.Item)
+        → Self.asked_len (with_items body items) ≡ Self.asked_len body };
 
     /// It keeps the room.
-    ghost has_room_as_before: { (body : Self) (items : List Self.Item) → Self.room (with_items body items) ≡ Self.room body };
+    ghost has_room_as_before: { (body : Self) (items : List Self.Item)
+        → Self.room (with_items body items) ≡ Self.room body };
 }

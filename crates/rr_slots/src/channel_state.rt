@@ -9,8 +9,8 @@ pub struct ChannelState {
     value: u64,
 }
 
-/// The id of a request: how many requests its client had loaned before it. iceoryx2's `RequestId`. In a hub's headers an id is a
-/// plain `u64`.
+/// The id of a request: how many requests its client had loaned before it. iceoryx2's `RequestId`. In a hub's headers
+/// an id is a plain `u64`.
 pub type RequestId = ChannelState;
 
 impl Model for ChannelState {
@@ -26,7 +26,7 @@ impl Model for ChannelState {
 }
 
 impl ChannelState {
-    /// The state with this value, if there is one: the values are those below `max_value`.
+    /// Returns the state with this value, or `None` if the value is not below `max_value`.
     pub fn new(value: u64) -> Option<Self>
         ensures valid { IsSome result ↔ (value < 2 ^ 62) }
         ensures value { IfSome result (λ state. state ≡ value) }

@@ -5,7 +5,7 @@ use crate::channel_state::RequestId;
 use std::alloc::{AllocError, Global};
 use std::marker::Model;
 
-/// A channel, on which the responses to one request come in.
+/// A channel, which receives the responses to one request.
 #[derive(Clone, Copy, Debug, PartialEq, Eq)]
 pub enum Channel {
     /// Open for no request.
@@ -16,8 +16,9 @@ pub enum Channel {
 
 /// The channels of a client, each closed or open for one request.
 ///
-/// No hub of this repository keeps one: it finds a channel's request by the client's pending responses. It is for those who build
-/// ports of their own on this crate. Stands for what iceoryx2's `Client` and `Server` store for each channel.
+/// No hub of this repository keeps one: it finds a channel's request by the client's pending responses. It is for
+/// users who build their own ports on this crate. Replaces what iceoryx2's `Client` and `Server` store for each
+/// channel.
 #[derive(Debug, Drop)]
 pub struct ChannelTable {
     channels: Vec<Channel>,
@@ -81,7 +82,7 @@ impl Channel {
 impl ChannelTable {
     ghost use Rattle.rr_slots.specs.Channels.{closed, hinted, is_open, is_hinted, with_changed_at, is_at};
 
-    /// So many closed channels. `Err` if memory was refused.
+    /// Makes a table of `channels` closed channels. `Err` if memory was refused.
     pub fn new(alloc: Global, channels: usize) -> Result<Self, AllocError>
         ensures { IfOk result (λ table. table ≡ replicate channels Channel.Closed) }
     {

@@ -9,8 +9,8 @@ use std::marker::Model;
 /// The queues from one sending port to one receiving port: one for each channel, all of one capacity. An entry is the
 /// number of a slot in the sender's pool.
 ///
-/// All memory is taken by `new`. Each other call takes none, and beside `is_empty` a fixed time whatever the numbers of channels
-/// and entries. Not in iceoryx2, which leaves queues to the layers below its ports.
+/// `new` takes all memory. Other calls take none, and, except for `is_empty`, run in constant time. Not in iceoryx2,
+/// which leaves queues to the layers below its ports.
 #[derive(Drop)]
 pub struct Connection {
     queues: Vec<HeapCircularBuffer<usize>>,
@@ -30,8 +30,7 @@ impl Model for Connection {
 impl Connection {
     ghost use Rattle.rr_slots.specs.Connections.{no_entries, queue_of, with_queue, pushed, evicted, is_full, has_entries};
 
-    /// So many channels with no entry, each with room for `capacity` entries. `AllocError` where there is no memory for
-    /// them all.
+    /// Makes `channels` empty queues, each of capacity `capacity`. `AllocError` if there is no memory for them.
     pub fn new(alloc: Global, channels: usize, capacity: usize) -> Result<Self, AllocError>
         ensures { IfOk result (λ connection. connection ≡ no_entries channels capacity) }
     {
@@ -39,13 +38,14 @@ impl Connection {
         Ok(Connection { queues, capacity })
     }
 
-    /// Enters an entry at the end of a channel's queue. Returns the oldest entry if the queue was full; at capacity 0 that is
-    /// the new entry itself. Returns `None` if there was room.
+    /// Appends an entry to a channel's queue. Returns the entry that this displaced: the oldest if the queue was
+    /// full, or the new one at capacity 0. Returns `None` if there was room.
     #[inline(always)]
     pub fn push(&mut self, channel: usize, entry: usize) -> Option<usize>
         requires { channel < length self.old.queues }
         ensures evicted { result ≡ evicted self.old.capacity (queue_of self.old channel) entry }
-        ensures state { self.new ≡ with_queue self.old channel (pushed self.old.capacity (queue_of self.old channel) entry) }
+        ensures state { self.new ≡ with_queue self.old channel
+            (pushed self.old.capacity (queue_of self.old channel) entry) }
     {
         let queue = &mut self.queues[channel];
         if has_no_room(queue) {
@@ -88,7 +88,7 @@ impl Connection {
         self.queues[channel].front().copied()
     }
 
-    /// Whether a channel has as many entries as its capacity, so that a push gives one up.
+    /// Returns whether a channel's queue is full, so that a push displaces an entry.
     #[inline(always)]
     pub fn is_full(&self, channel: usize) -> bool
         requires { channel < length self.now.queues }
@@ -116,14 +116,14 @@ impl Connection {
         self.queues[channel].len()
     }
 
-    /// Returns whether no channel has an entry. Looks once at each channel.
+    /// Returns whether all queues are empty. Reads each channel once.
     pub fn is_empty(&self) -> bool
         ensures { IsTrue result ↔ All (λ queue. queue ≡ []) self.now.queues }
     {
         are_empty(self.queues.as_slice())
     }
 
-    /// How many channels there are.
+    /// Returns the number of channels.
     pub fn channels(&self) -> usize
         ensures { result ≡ length self.now.queues }
     {
@@ -139,8 +139,8 @@ impl Connection {
     }
 }
 
-/// Returns whether a queue has as many entries as its capacity. Compares as `try_push_back` does, so that the compiler asks
-/// once.
+/// Returns whether a queue has as many entries as its capacity. Compares as `try_push_back` does, so that the
+/// compiler asks once.
 #[inline(always)]
 fn has_no_room(queue: &HeapCircularBuffer<usize>) -> bool
     ensures { result ≡ (length queue.now.items == queue.now.capacity) }
@@ -155,7 +155,7 @@ fn are_empty(queues: &[HeapCircularBuffer<usize>]) -> bool
     queues.iter().all(|queue| queue.is_empty())
 }
 
-/// So many queues with no entry, of one capacity. `AllocError` where there is no memory for them all.
+/// Makes `channels` empty queues of one capacity. `AllocError` if there is no memory for them.
 fn empty_queues(
     alloc: Global,
     channels: usize,

@@ -1,4 +1,4 @@
-//! How many hold each slot. Free slots stand in a list, which is threaded through the slots themselves.
+//! The holder counts of slots. The free slots form a list that is threaded through the slots themselves.
 ghost use Rattle.std.specs.Prelude.{◌≡◌, ℕ, ◌+◌, ◌-◌, ◌<◌, ◌^◌, ◌↔◌, ◌==◌, length, replicate, slice_get, slice_index, slice_set, Some, IfOk, IfSome, IsNone};
 ghost use Rattle.rr_slots.specs.Holding.{count_free, count_held};
 
@@ -10,8 +10,8 @@ use std::marker::Model;
 #[derive(Drop)]
 pub(crate) struct Holders {
     slots: WatchedSlots,
-    // What calls change stands on another cache line than where the slots are: who reads that needn't wait for the other thread that
-    // changed it.
+    // The fields that calls change are on another cache line than the pointer to the slots, so a thread that reads
+    // the pointer doesn't wait for the thread that changed them.
     padding: [u64; 7],
     first_free: usize,
     free: usize,
@@ -30,8 +30,8 @@ impl Model for Holders {
 }
 
 impl Holders {
-    /// So many slots that nobody holds. The last one is taken first: what stands for slot 0 in large tables, which begin at borders of
-    /// pages, shares lines of a processor's cache.
+    /// Makes `slots` free slots. The last one is taken first: large tables begin at page boundaries, so their entries
+    /// for slot 0 would compete for the same cache lines.
     pub(crate) fn new(alloc: Global, slots: usize) -> Result<Self, AllocError>
         ensures free { IfOk result (λ h. h.holders ≡ replicate slots 0) }
         ensures looks { IfOk result (λ h. h.looks ≡ 0) }
@@ -44,7 +44,7 @@ impl Holders {
         })
     }
 
-    /// A free slot, if there is one, which stays free.
+    /// Returns a free slot, if there is one, which stays free.
     pub(crate) fn first_free(&self) -> Option<usize>
         ensures none { IsNone result ↔ (count_free self.now.holders ≡ 0) }
         ensures some { IfSome result (λ slot. slot ≡ self.now.first) }
@@ -56,7 +56,7 @@ impl Holders {
         Some(self.first_free)
     }
 
-    /// Takes the free slot that `first_free` names, which is held once from now on.
+    /// Acquires the free slot that `first_free` returns, with one holder.
     pub(crate) fn take(&mut self) -> usize
         requires { 0 < count_free self.old.holders }
         ensures first { result ≡ self.old.first }
@@ -71,7 +71,7 @@ impl Holders {
         slot
     }
 
-    /// One more holds a slot that is held.
+    /// Adds a holder to a slot that is held.
     pub(crate) fn hold(&mut self, slot: usize)
         requires held { 0 < slice_index self.old.holders slot }
         requires fits { slice_index self.old.holders slot + 1 < 2 ^ 64 }
@@ -83,7 +83,7 @@ impl Holders {
         self.slots.set(slot, Slot { holders, next });
     }
 
-    /// One less holds a slot that is held. The slot is free once nobody holds it; returns whether it is.
+    /// Removes a holder from a slot that is held. Returns whether the slot is free now.
     #[inline(always)]
     pub(crate) fn give_back(&mut self, slot: usize) -> bool
         requires { 0 < slice_index self.old.holders slot }
@@ -104,7 +104,7 @@ impl Holders {
         false
     }
 
-    /// How many slots nobody holds. It looks at none of them.
+    /// Returns the number of free slots. Reads no slot.
     pub(crate) fn free(&self) -> usize
         ensures free { result ≡ count_free self.now.holders }
         ensures rest { result + count_held self.now.holders ≡ length self.now.holders }

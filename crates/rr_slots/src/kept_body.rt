@@ -5,8 +5,8 @@ use crate::plain_body::PlainBody;
 use std::alloc::{AllocError, Global};
 use std::marker::Model;
 
-/// A body of one element that can be copied. What was written stays in its memory as the body is emptied, so that a message can be
-/// completed by what stands there, and then written in place, without being filled first.
+/// A body of one `Copy` element. Emptying the body leaves the old element in memory, so a message can be completed
+/// with it and then written in place, without a fill.
 #[derive(Drop)]
 pub struct KeptBody<T: Copy> {
     body: PlainBody<T>,

@@ -1,5 +1,5 @@
-//! What messages stand in, below any hub: bodies that are written element by element, pools of them, the queues between
-//! two ports, and channels.
+//! The storage of messages, below any hub: bodies that are written element by element, pools of them, the queues
+//! between two ports, and channels.
 #![tactic(auto)]
 
 mod body;

@@ -6,8 +6,8 @@ use crate::family::Family;
 use std::alloc::{AllocError, Global};
 use std::marker::Model;
 
-/// A body of any length, of elements that can be copied. What was written stays in its memory as the body is emptied, so that a message
-/// can be completed by what stands there, and then written in place, without being filled first.
+/// A body of any length, of `Copy` elements. Emptying the body leaves the old elements in memory, so a message can be
+/// completed with them and then written in place, without a fill.
 #[derive(Drop)]
 pub struct PlainBody<T: Copy> {
     asked: usize,
@@ -123,14 +123,14 @@ impl<T: Copy> WriteBody for PlainBody<T> {
 impl<T: Copy> FillBody for PlainBody<T> {
     fn fill(&mut self, element: T) {
         self.items.clear();
-        // There is room for as many as are asked for.
+        // There is room for the loaned length.
         let _ = self.items.resize(self.asked, element);
         self.len = self.asked;
     }
 
     fn copy(&mut self, elements: &[T]) {
         self.items.clear();
-        // There is room for as many as are asked for.
+        // There is room for the loaned length.
         let _ = self.items.extend_from_slice(elements);
         self.len = self.asked;
     }
@@ -162,8 +162,8 @@ impl<T: Copy> LendBody for PlainBody<T> {
     }
 }
 
-/// Appends default elements up to a length, for which there is room. It stands alone, since a function writes all its locals each time
-/// that it is called.
+/// Appends default elements up to a length for which there is room. It is a separate function because a function
+/// writes all its locals on every call.
 #[cold]
 #[inline(never)]
 fn fill_rest<T: Copy + Default>(items: &mut Vec<T>, len: usize)

@@ -1,5 +1,5 @@
-//! A fixed number of bodies, each in a slot with the number of those that hold it. Free slots stand in a list, which is
-//! threaded through the slots themselves.
+//! A fixed number of bodies, each in a slot with its number of holders. The free slots form a list that is threaded
+//! through the slots themselves.
 ghost use Rattle.std.specs.Prelude.{◌≡◌, ℕ, ◌+◌, ◌<◌, ◌≤◌, ◌^◌, ◌↔◌, length, map, replicate, slice_get, slice_index, Some, All, IfOk, IsErrOf, IsTrue, OnErr};
 ghost use Rattle.rr_slots.specs.Families.{takes_len};
 ghost use Rattle.rr_slots.specs.Pools.{written, nothing_written, free_slots, acquired, held_once_more, given_back, free_count, held_count};
@@ -23,10 +23,12 @@ pub enum AcquireError {
     NoRoom,
 }
 
-/// A fixed number of slots, each with a body and the number of its holders. A slot is free exactly if nobody holds it.
+/// A fixed number of slots, each with a body and the number of its holders. A slot is free exactly if nobody holds
+/// it.
 ///
-/// Not in iceoryx2: it stands for the data segment of an iceoryx2 port. `acquire`, `hold` and `give_back` look at most twice at the
-/// holders of a slot, whatever the number of slots; contracts see the looks, which take no bytes.
+/// Not in iceoryx2: it replaces the data segment of an iceoryx2 port. `acquire`, `hold` and `give_back` access the
+/// holders of a slot at most twice, whatever the number of slots; contracts see the number of accesses, which takes
+/// no bytes.
 #[derive(Drop)]
 pub struct Pool<B: Body> {
     bodies: Vec<B>,
@@ -42,14 +44,20 @@ impl<B: Body> Model for Pool<B> {
 
     ghost coded = { slots_code B.Item.code };
 
-    ghost view = { λ p. record { contents = map (written B.asked_len B.elements) p.bodies.items; holders = p.holders.holders; room = p.room; looks = p.holders.looks } };
+    ghost view = { λ p. record {
+      contents = map (written B.asked_len B.elements) p.bodies.items;
+      holders = p.holders.holders;
+      room = p.room;
+      looks = p.holders.looks;
+    } };
 
-    ghost invariant = { λ p. (length p.bodies.items ≡ length p.holders.holders) × All (λ b. p.room ≤ B.room b) p.bodies.items };
+    ghost invariant = { λ p. (length p.bodies.items ≡ length p.holders.holders)
+        × All (λ b. p.room ≤ B.room b) p.bodies.items };
 }
 
 impl<B: WriteBody> Pool<B> {
-    /// So many free slots, each with room for `room` elements, a length that the body's family takes. `Err` if memory was
-    /// refused.
+    /// Makes `slots` free slots, each with room for `room` elements, a length that the body's family takes. `Err` if
+    /// memory was refused.
     pub fn new(alloc: Global, slots: usize, room: usize) -> Result<Self, AllocError>
         requires { IsTrue (takes_len B.family room) }
         ensures { IfOk result (λ pool. pool ≡ free_slots slots room) }
@@ -61,11 +69,11 @@ impl<B: WriteBody> Pool<B> {
         })
     }
 
-    /// Takes a free slot, which is held once from now on, and has an empty body that asks for `len` elements, a length that
-    /// the family takes.
+    /// Acquires a free slot, with one holder and an empty body of `len` loaned elements, a length that the family
+    /// takes.
     ///
-    /// `Full` exactly if no slot is free. `NoRoom` if `len` is above the room and memory was refused. Nothing has changed
-    /// on either.
+    /// `Full` exactly if no slot is free. `NoRoom` if `len` is above the room and memory was refused. Nothing has
+    /// changed on either.
     #[inline(always)]
     pub fn acquire(&mut self, len: usize) -> Result<usize, AcquireError>
         requires { IsTrue (takes_len B.family len) }
@@ -89,7 +97,7 @@ impl<B: WriteBody> Pool<B> {
 }
 
 impl<B: Body> Pool<B> {
-    /// One more holds a slot that is held.
+    /// Adds a holder to a slot that is held.
     pub fn hold(&mut self, slot: usize)
         requires held { 0 < slice_index self.old.holders slot }
         requires fits { slice_index self.old.holders slot + 1 < 2 ^ 64 }
@@ -98,8 +106,8 @@ impl<B: Body> Pool<B> {
         self.holders.hold(slot);
     }
 
-    /// One less holds a slot that is held. The slot is free once nobody holds it, and what stood in it is dropped: as many
-    /// elements are asked for as before.
+    /// Removes a holder from a slot that is held. If it was the last one, the slot is free and its elements are
+    /// dropped; the length of its loan stays.
     #[inline(always)]
     pub fn give_back(&mut self, slot: usize)
         requires { 0 < slice_index self.old.holders slot }
@@ -129,10 +137,11 @@ impl<B: Body> Pool<B> {
     }
 }
 
-/// So many empty bodies, each with room for `room` elements.
+/// Makes `slots` empty bodies, each with room for `room` elements.
 fn bodies<B: WriteBody>(alloc: Global, slots: usize, room: usize) -> Result<Vec<B>, AllocError>
     requires { IsTrue (takes_len B.family room) }
-    ensures written { IfOk result (λ bodies. map (written B.asked_len B.elements) bodies.items ≡ replicate slots (nothing_written room)) }
+    ensures written { IfOk result (λ bodies. map (written B.asked_len B.elements) bodies.items
+        ≡ replicate slots (nothing_written room)) }
     ensures room { IfOk result (λ bodies. All (λ b. room ≤ B.room b) bodies.items) }
 {
     let mut bodies = Vec::with_capacity(alloc, slots)?;

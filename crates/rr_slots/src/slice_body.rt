@@ -7,7 +7,7 @@ use crate::family::Family;
 use std::alloc::{AllocError, Global};
 use std::marker::Model;
 
-/// A body of any length, over a vector that has room for what is asked for.
+/// A body of any length, over a vector that has room for the loaned length.
 #[derive(Drop)]
 pub struct SliceBody<T: Drop> {
     asked: usize,
@@ -116,13 +116,13 @@ impl<T: Drop> WriteBody for SliceBody<T> {
 impl<T: Copy> FillBody for SliceBody<T> {
     fn fill(&mut self, element: T) {
         self.items.clear();
-        // There is room for as many as are asked for.
+        // There is room for the loaned length.
         let _ = self.items.resize(self.asked, element);
     }
 
     fn copy(&mut self, elements: &[T]) {
         self.items.clear();
-        // There is room for as many as are asked for.
+        // There is room for the loaned length.
         let _ = self.items.extend_from_slice(elements);
     }
 }

@@ -1,4 +1,4 @@
-//! Slots, of which every look is counted.
+//! Slots that count their accesses.
 ghost use Rattle.std.specs.Prelude.{◌≡◌, ℕ, ◌+◌, ◌<◌, ◌^◌, length, slice_get, slice_set, Some, IfOk};
 ghost use Rattle.rr_slots.specs.Threads.{all_free};
 
@@ -11,11 +11,11 @@ use std::marker::Model;
 pub(crate) struct Slot {
     /// How many hold it.
     pub(crate) holders: usize,
-    /// The slot that is free after it, of no meaning while it is held. The last free one names any.
+    /// The next free slot; meaningless while the slot is held, and in the last free slot.
     pub(crate) next: usize,
 }
 
-/// All slots, which are looked at one by one: each look, to read or to write, is counted.
+/// All slots. Each access, to read or to write a slot, is counted.
 #[derive(Drop)]
 pub(crate) struct WatchedSlots {
     slots: Vec<Slot>,
@@ -33,7 +33,7 @@ impl Model for WatchedSlots {
 impl WatchedSlots {
     ghost use Rattle.rr_slots.specs.Threads.{watched};
 
-    /// Free slots, each followed by the one before it, which nobody looked at.
+    /// Makes free slots that have no access yet, each followed by the one before it.
     pub(crate) fn new(alloc: Global, slots: usize) -> Result<Self, AllocError>
         ensures { IfOk result (λ s. s ≡ watched (all_free slots) 0) }
     {
@@ -64,7 +64,7 @@ impl WatchedSlots {
     }
 }
 
-/// So many free slots, each followed by the one before it.
+/// Makes `slots` free slots, each followed by the one before it.
 fn free_slots(alloc: Global, slots: usize) -> Result<Vec<Slot>, AllocError>
     ensures { IfOk result (λ free. free.items ≡ all_free slots) }
 {

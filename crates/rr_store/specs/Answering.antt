@@ -20,12 +20,13 @@ abbrev pub active_in : Stage → Option (ℕ × ℕ)
 active_in (stage.ActiveRequest server loans) = Some (server, loans)
 active_in _ = None
 
--- the handle of a server's active request with so many responses on loan
+-- the handle of a server's active request with this many responses on loan
 abbrev pub active_entry : ℕ → ℕ → ℕ → ℕ → HandleEntry
-active_entry server sender slot loans = record { stage = stage.ActiveRequest server loans; sender = sender; slot = slot }
+active_entry server sender slot loans =
+    record { stage = stage.ActiveRequest server loans; sender = sender; slot = slot }
 
 module _ {K : Type 0} where
-  -- where the server of an active request stands
+  -- the index of an active request's server
   abbrev pub server_index : List (ServerPort K) → HandleEntry → Option ℕ
   server_index servers entry = option_and_then (λ a. position (λ s. s.port.id == a.0) servers) (active_in entry.stage)
 
@@ -33,7 +34,8 @@ module _ {K : Type 0} where
 abbrev pub response_loan_held : {K : Type 0} → ServerPart K → ℕ → HandleEntry
 response_loan_held c slot = record { stage = stage.ResponseMutUninit; sender = c.sender; slot = slot }
 
--- the details of a response with a number: its server and the active request that it is loaned from, in which sender the request of that stands, which one it is, and in which slot
+-- the details of a response with a number: its server, the active request that it is loaned from, and the sender, the
+-- number and the slot of that one's request
 abbrev pub response_loan_details_of : ℕ → ℕ → ℕ → RequestDetails → ℕ → ℕ → ResponseDetails
 response_loan_details_of server n sender request slot number =
     record {
@@ -48,9 +50,10 @@ response_loan_details_of server n sender request slot number =
     }
 
 module _ {Q QH P PH K : Type 0} (p : Parts Q QH P PH K) where
-  -- the details of a response that a server loans from an active request, whose request stands in this sender and slot
+  -- the details of a response that a server loans from an active request, whose request is in this sender and slot
   abbrev pub response_loan_details : ServerPart K → ℕ → ℕ → ℕ → ResponseDetails
-  response_loan_details c n sender slot = response_loan_details_of c.port.id n sender (request_details p sender slot) slot p.next
+  response_loan_details c n sender slot =
+      response_loan_details_of c.port.id n sender (request_details p sender slot) slot p.next
 
   -- the place of the response's handle
   abbrev pub response_loan_place : ServerPart K → ℕ → Place
@@ -62,10 +65,15 @@ module _ {Q QH P PH K : Type 0} (p : Parts Q QH P PH K) where
       record p {
         next = p.next + 1;
         server_senders = slice_set p.server_senders c.sender
-            (with_one_loan (with_messages (sender_of c.sender p.server_senders) (loaned (sender_of c.sender p.server_senders).messages slot len details header)));
+            (with_one_loan (with_messages (sender_of c.sender p.server_senders)
+            (loaned (sender_of c.sender p.server_senders).messages slot len details header)));
       }
 
   -- and has one, and the active request counts it
-  abbrev pub with_response_loan : ServerPart K → ℕ → Place → HandleEntry → ResponseDetails → ℕ → ℕ → PH → Parts Q QH P PH K
+  abbrev pub with_response_loan : ServerPart K → ℕ → Place → HandleEntry → ResponseDetails → ℕ → ℕ → PH
+      → Parts Q QH P PH K
   with_response_loan c n place active details slot len header =
-      let q = with_response_loan_in_hand c details slot len header in record q { table = inserted (inserted p.table n place active) p.next (response_loan_place c slot) (response_loan_held c slot) }
+      let q = with_response_loan_in_hand c details slot len header in record q {
+        table = inserted (inserted p.table n place active) p.next (response_loan_place c slot)
+            (response_loan_held c slot);
+      }

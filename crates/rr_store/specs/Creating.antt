@@ -13,12 +13,13 @@ use Rattle.rr_store.specs.declared.port.LeftPort.{LeftPort}
 use Rattle.rr_store.specs.Parts.{Parts, ClientPart, ServerPart, Sender}
 use Rattle.rr_store.specs.Views.{no_server, sender_of}
 
--- whether a number is one from another on, below a third
+-- whether a number is at least `low` and below `high`
 abbrev pub is_between : ℕ → ℕ → ℕ → Bool
 is_between low high n = not (nat_lt n low) && nat_lt n high
 
--- a sender from which nothing was sent
-pub record IsNew {T N H : Type 0} (slots room receivers channels capacity : ℕ) (detail : N) (m : Messages T N H) : Type 0 where
+-- a new sender, whose slots are free and whose queues are empty
+pub record IsNew {T N H : Type 0} (slots room receivers channels capacity : ℕ) (detail : N) (m : Messages T N H)
+    : Type 0 where
   pub contents : length m.contents ≡ slots
   pub details : m.details ≡ replicate slots detail
   pub user_headers : length m.user_headers ≡ slots
@@ -28,7 +29,7 @@ pub record IsNew {T N H : Type 0} (slots room receivers channels capacity : ℕ)
   pub capacity_is : m.capacity ≡ capacity
   pub room_is : m.room ≡ room
 
--- where the sender of a new port stands: its index and its row; and the senders, the ports that left and the rows then
+-- the site of a new port's sender: its index and its row; and the senders, the ports that left and the rows then
 pub record Site (T N H : Type 0) : Type 0 where
   pub sender : ℕ
   pub row : ℕ
@@ -43,32 +44,56 @@ left_at index left = slice_index_or left index (record { number = 0; sender = 0 
 -- the sender of a new port, with this number, row and receiver, and these marks and messages
 abbrev pub new_sender : {T N H : Type 0} → ℕ → ℕ → ℕ → List ℕ → Messages T N H → Sender T N H
 new_sender owner row receiver may_answer messages =
-    record { owner = owner; row = row; receiver = receiver; has_value = true; loans = 0; pendings = 0; may_answer = may_answer; messages = messages }
+    record {
+      owner =
+          owner;
+      row = row;
+      receiver = receiver;
+      has_value = true;
+      loans = 0;
+      pendings = 0;
+      may_answer = may_answer;
+      messages = messages;
+    }
 
 -- whether nothing uses a sender
 abbrev pub is_idle : {T N H : Type 0} → Sender T N H → Bool
 is_idle l = used_count l.messages == 0
 
 module _ {T N H : Type 0} (senders : List (Sender T N H)) (left : List LeftPort) where
-  -- which of the ports that left is the first whose sender nothing uses
+  -- the index of the first port that left whose sender nothing uses
   abbrev pub idle_left : Option ℕ
   idle_left = position (λ l. is_idle (sender_of l.sender senders)) left
 
-  -- how many senders there are after a creation: one more, if none of a port that left could be taken
+  -- the number of senders after a creation: one more, unless a sender of a port that left is reused
   abbrev pub senders_after : ℕ
   senders_after = if is_some idle_left then length senders else length senders + 1
 
-  -- a new sender, with a row of so many places, behind all others
+  -- a new sender, with a row of this many places, after all others
   abbrev pub last_site : List ℕ → ℕ → Sender T N H → Site T N H
   last_site rows row_len new =
-      record { sender = length senders; row = length rows; senders = senders ++ new ∷ []; left = left; rows = rows ++ row_len ∷ [] }
+      record {
+        sender =
+            length senders;
+        row = length rows;
+        senders = senders ++ new ∷ [];
+        left = left;
+        rows = rows ++ row_len ∷ [];
+      }
 
-  -- and in the place of a port that left, which has the same row
+  -- and a sender that replaces the one of a port that left, in the same row
   abbrev pub left_site : List ℕ → ℕ → (ℕ → Sender T N H) → ℕ → Site T N H
   left_site rows row_len new index =
       let sender = (left_at index left).sender in
       let row = (sender_of sender senders).row in
-      record { sender = sender; row = row; senders = slice_set senders sender (new row); left = remove left index; rows = slice_set rows row row_len }
+      record {
+        sender =
+            sender;
+        row = row;
+        senders = slice_set senders sender (new row);
+        left = remove left index;
+        rows = slice_set rows row row_len;
+      }
 
 module _ {Q QH P PH K : Type 0} (p : Parts Q QH P PH K) where
   -- the port of a client with these settings, and of a server
@@ -99,14 +124,19 @@ module _ {Q QH P PH K : Type 0} (p : Parts Q QH P PH K) where
   -- a client that sends from a sender, and is this receiver
   abbrev pub new_client : ClientSettings K → ℕ → ℕ → ClientPart K
   new_client settings sender receiver =
-      record { connected = record { port = client_port settings; sender = sender; receiver = receiver }; loans_made = 0 }
+      record {
+        connected =
+            record { port = client_port settings; sender = sender; receiver = receiver };
+        loans_made = 0;
+      }
 
   -- the new sender of a client, with this row
   abbrev pub new_client_sender : ClientSettings K → ℕ → ℕ → Messages Q RequestDetails QH → Sender Q RequestDetails QH
   new_client_sender settings row receiver messages =
-      new_sender p.next row receiver (replicate ((client_port settings).pool_size * p.limits.max_servers) no_server) messages
+      new_sender p.next row receiver (replicate ((client_port settings).pool_size * p.limits.max_servers) no_server)
+      messages
 
-  -- how many places the row of a client has
+  -- the number of places in a client's row
   abbrev pub client_row_len : ClientSettings K → ℕ
   client_row_len settings = (p.limits.max_servers + 1) * (client_port settings).pool_size
 
@@ -121,13 +151,13 @@ module _ {Q QH P PH K : Type 0} (p : Parts Q QH P PH K) where
         table = record p.table { rows = site.rows };
       }
 
-  -- the site behind all senders
+  -- the site after all senders
   abbrev pub last_client_site : ClientSettings K → ℕ → Messages Q RequestDetails QH → Site Q RequestDetails QH
   last_client_site settings receiver messages =
       last_site p.client_senders p.left_clients p.table.rows (client_row_len settings)
       (new_client_sender settings (length p.table.rows) receiver messages)
 
-  -- the site of the client that left as the one at an index
+  -- the site of the client at an index of those that left
   abbrev pub left_client_site : ClientSettings K → ℕ → Messages Q RequestDetails QH → ℕ → Site Q RequestDetails QH
   left_client_site settings receiver messages index =
       left_site p.client_senders p.left_clients p.table.rows (client_row_len settings)
@@ -157,13 +187,13 @@ module _ {Q QH P PH K : Type 0} (p : Parts Q QH P PH K) where
         table = record p.table { rows = site.rows };
       }
 
-  -- the site behind all senders
+  -- the site after all senders
   abbrev pub last_server_site : ServerSettings K → ℕ → Messages P ResponseDetails PH → Site P ResponseDetails PH
   last_server_site settings receiver messages =
       last_site p.server_senders p.left_servers p.table.rows (server_port settings).pool_size
       (new_server_sender (length p.table.rows) receiver messages)
 
-  -- the site of the server that left as the one at an index
+  -- the site of the server at an index of those that left
   abbrev pub left_server_site : ServerSettings K → ℕ → Messages P ResponseDetails PH → ℕ → Site P ResponseDetails PH
   left_server_site settings receiver messages index =
       left_site p.server_senders p.left_servers p.table.rows (server_port settings).pool_size

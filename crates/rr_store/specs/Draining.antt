@@ -1,4 +1,4 @@
--- Some queues of senders lose all their entries as a port leaves, and what stood in their slots may be dropped.
+-- Some queues of senders lose all their entries when a port leaves, and the contents of their slots may be dropped.
 use Rattle.std.specs.Prelude.{◌≡◌, ◌<◌, ℕ, Bool, List, Some, length, slice_get}
 use Rattle.rr_sender.specs.Draining.{MessagesDrained}
 use Rattle.rr_store.specs.declared.port.LeftPort.{LeftPort}
@@ -26,4 +26,5 @@ module _ {T N H : Type 0} (senders : List (Sender T N H)) where
 
 -- no two elements have one number
 abbrev pub AreApart : {X : Type 0} → (X → ℕ) → List X → Type 0
-AreApart {X} read xs = (i j : ℕ) (x y : X) → slice_get xs i ≡ Some x → slice_get xs j ≡ Some y → read x ≡ read y → i ≡ j
+AreApart {X} read xs =
+    (i j : ℕ) (x y : X) → slice_get xs i ≡ Some x → slice_get xs j ≡ Some y → read x ≡ read y → i ≡ j

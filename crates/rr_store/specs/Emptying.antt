@@ -1,10 +1,10 @@
--- What stays while what stands in slots that nothing uses is dropped: all but their contents.
+-- Facts that stay true when unused slots lose their contents: everything else is unchanged.
 use Rattle.std.specs.Prelude.{◌≡◌, ◌<◌, ℕ, List, length}
 use Rattle.rr_sender.specs.Senders.{Messages, content_at, uses}
 use Rattle.rr_store.specs.Parts.{Sender, Parts}
 use Rattle.rr_store.specs.Views.{sender_of}
 
--- what stands in the slots that are used is as before, and so is all else
+-- the contents of the slots in use are unchanged, and so is everything else
 pub record MessagesEmptied {T N H : Type 0} (before after : Messages T N H) : Type 0 where
   pub rest : after ≡ record before { contents = after.contents }
   pub many : length after.contents ≡ length before.contents

@@ -1,4 +1,4 @@
--- What the stage of a pending response tells, and the stage once its hint is set.
+-- The hint in the stage of a pending response, and the stage once its hint is set.
 use Rattle.std.specs.Prelude.{ℕ, Bool, true, false}
 use Rattle.rr_store.specs.declared.handle_entry.Stage.{Stage}
 use Rattle.rr_store.specs.declared.handle_entry.Stage.TheVariants as stage

@@ -1,4 +1,4 @@
--- What a handle's stage tells of the handle.
+-- The kind of a handle by its stage.
 use Rattle.rr_protocol.specs.declared.kind.Kind.{Kind}
 use Rattle.rr_store.specs.declared.handle_entry.Stage.{Stage}
 use Rattle.rr_store.specs.declared.handle_entry.Stage.TheVariants as stage

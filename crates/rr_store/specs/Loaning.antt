@@ -40,17 +40,19 @@ module _ {Q QH P PH K : Type 0} (p : Parts Q QH P PH K) where
   abbrev pub loan_place : ClientPart K → ℕ → Place
   loan_place c slot = record { row = (sender_of c.sender p.client_senders).row; index = slot }
 
-  -- a client that stands at an index loaned a request in this slot, which has no handle yet
+  -- the client at an index loaned a request in this slot, which has no handle yet
   abbrev pub with_loan_in_hand : ℕ → ClientPart K → ℕ → ℕ → QH → Parts Q QH P PH K
   with_loan_in_hand index c slot len header =
       record p {
         next = p.next + 1;
         clients = slice_set p.clients index (with_loan_made c);
         client_senders = slice_set p.client_senders c.sender
-            (with_one_loan (with_messages (sender_of c.sender p.client_senders) (loaned (sender_of c.sender p.client_senders).messages slot len (loan_details c) header)));
+            (with_one_loan (with_messages (sender_of c.sender p.client_senders)
+            (loaned (sender_of c.sender p.client_senders).messages slot len (loan_details c) header)));
       }
 
   -- and has one
   abbrev pub with_request_loan : ℕ → ClientPart K → ℕ → ℕ → QH → Parts Q QH P PH K
   with_request_loan index c slot len header =
-      let q = with_loan_in_hand index c slot len header in record q { table = inserted p.table p.next (loan_place c slot) (loan_held c slot) }
+      let q = with_loan_in_hand index c slot len header in record q
+      { table = inserted p.table p.next (loan_place c slot) (loan_held c slot) }

@@ -1,4 +1,4 @@
--- A store, whose sides stand in the open, as parts.
+-- A store, whose sides have public fields, as parts.
 use Rattle.std.specs.Prelude.{map}
 use Rattle.rr_store.specs.declared.store.Store.{Store}
 use Rattle.rr_store.specs.Parts.{Parts}

@@ -1,4 +1,4 @@
--- What a core keeps.
+-- The parts of a core.
 use Rattle.std.specs.Prelude.{ℕ, Bool, List}
 use Rattle.rr_table.specs.TableView.{TableView}
 use Rattle.rr_sender.specs.Senders.{Messages}
@@ -28,7 +28,9 @@ pub record ServerPart (K : Type 0) : Type 0 where
   pub max_loaned_responses_per_request : ℕ
   pub max_loaned_responses : ℕ
 
--- what a port sends from: the port's number and its index among the receivers of the other side, the row in which the handles of its messages stand, whether the port's value lives, how many messages are on loan and how many responses are pending, and, by slot and receiver, which server may still answer a request
+-- a sender with its owner: the port's number and its index among the receivers of the other side, the row that has
+-- the handles of its messages, whether the port's value lives, how many messages are on loan and how many responses
+-- are pending, and, by slot and receiver, the server that may still answer a request
 pub record Sender (T N H : Type 0) : Type 0 where
   pub owner : ℕ
   pub row : ℕ
@@ -39,7 +41,7 @@ pub record Sender (T N H : Type 0) : Type 0 where
   pub may_answer : List ℕ
   pub messages : Messages T N H
 
--- the whole, with the ports that left in the order in which they did, and how many of them there is room for
+-- the whole, with the ports that left in the order in which they did, and the room for them
 pub record Parts (Q QH P PH K : Type 0) : Type 0 where
   pub limits : Limits
   pub node_id : ℕ

@@ -29,8 +29,23 @@ module _ {K : Type 0} where
 
   -- a connected server
   abbrev pub server_part : ServerPort K → ServerPart K
-  server_part s = record { connected = connected_of s.port; max_loaned_responses_per_request = s.max_loaned_responses_per_request; max_loaned_responses = s.max_loaned_responses }
+  server_part s =
+      record {
+        connected = connected_of s.port;
+        max_loaned_responses_per_request = s.max_loaned_responses_per_request;
+        max_loaned_responses = s.max_loaned_responses;
+      }
 
 -- a sender
 abbrev pub sender_part : {B N H T : Type 0} → OwnedSender B N H T → Sender T N H
-sender_part l = record { owner = l.owner; row = l.row; receiver = l.receiver; has_value = l.has_value; loans = l.loans; pendings = l.pendings; may_answer = l.may_answer.items; messages = l.messages }
+sender_part l =
+    record {
+      owner = l.owner;
+      row = l.row;
+      receiver = l.receiver;
+      has_value = l.has_value;
+      loans = l.loans;
+      pendings = l.pendings;
+      may_answer = l.may_answer.items;
+      messages = l.messages;
+    }

@@ -1,4 +1,4 @@
--- From which sender a receiver takes next, and the parts of a core after a response was received.
+-- The sender from which a receiver takes next, and the parts of a core after a response was received.
 use Rattle.std.specs.Prelude.{◌≡◌, ◌≢◌, ◌<◌, ◌≤◌, ℕ, Bool, true, false, List, [], length, drop, slice_index_or, slice_set, Option, Some, None, Result, Ok, Err}
 use Rattle.rr_table.specs.TableView.{inserted}
 use Rattle.rr_sender.specs.Senders.{queue_at, borrowed_at, taken}
@@ -21,38 +21,53 @@ module _ {T N H : Type 0} where
   -- each sender has a queue to the receiver's channel
   abbrev pub Reaches : List (Sender T N H) → ℕ → ℕ → Type 0
   Reaches senders receiver channel =
-      (sender : ℕ) → sender < length senders → (receiver < length (sender_of sender senders).messages.queues) × (channel < length (slice_index_or (sender_of sender senders).messages.queues receiver []))
+      (sender : ℕ) → sender < length senders → (receiver < length (sender_of sender senders).messages.queues)
+      × (channel < length (slice_index_or (sender_of sender senders).messages.queues receiver []))
 
   -- each sender's queues to the receiver have one for the channel
   abbrev pub HaveChannels : List (Sender T N H) → ℕ → ℕ → Type 0
-  HaveChannels senders receiver channel = (sender : ℕ) → sender < length senders → channel < length (slice_index_or (sender_of sender senders).messages.queues receiver [])
+  HaveChannels senders receiver channel =
+      (sender : ℕ) → sender < length senders → channel
+      < length (slice_index_or (sender_of sender senders).messages.queues receiver [])
 
-  -- some sender with an entry from which the receiver may have one more; or all queues are empty; or each with an entry has no room
+  -- some sender with an entry and below the borrow limit; or all queues are empty; or each queue with an entry is at
+  -- its borrow limit
   abbrev pub IsNextSender : List (Sender T N H) → ℕ → ℕ → ℕ → Result (Option ℕ) ReceiveError → Type 0
   IsNextSender senders receiver channel most (Ok (Some sender)) =
-      (sender < length senders) × (0 < length (queue_from senders receiver channel sender)) × (borrowed_from senders receiver channel sender < most)
-  IsNextSender senders receiver channel most (Ok None) = (sender : ℕ) → sender < length senders → queue_from senders receiver channel sender ≡ []
+      (sender < length senders) × (0 < length (queue_from senders receiver channel sender))
+      × (borrowed_from senders receiver channel sender < most)
+  IsNextSender senders receiver channel most (Ok None) =
+      (sender : ℕ) → sender < length senders → queue_from senders receiver channel sender ≡ []
   IsNextSender senders receiver channel most (Err ReceiveError.ExceedsMaxBorrows) =
-      ((sender : ℕ) → sender < length senders → borrowed_from senders receiver channel sender < most → queue_from senders receiver channel sender ≡ [])
-      × ((sender : ℕ) × (sender < length senders) × (most ≤ borrowed_from senders receiver channel sender) × (queue_from senders receiver channel sender ≢ []))
+      ((sender : ℕ) → sender < length senders → borrowed_from senders receiver channel sender < most
+      → queue_from senders receiver channel sender ≡ [])
+      × ((sender : ℕ) × (sender < length senders) × (most ≤ borrowed_from senders receiver channel sender)
+      × (queue_from senders receiver channel sender ≢ []))
   IsNextSender senders receiver channel most (Err (ReceiveError.ConnectionFailure failure)) = ⊥
 
-  -- the same, where nothing is told of the senders before one
+  -- the same, without a claim about the senders before `from`
   abbrev pub IsNextFrom : ℕ → List (Sender T N H) → ℕ → ℕ → ℕ → Result (Option ℕ) ReceiveError → Type 0
-  IsNextFrom from senders receiver channel most (Ok (Some sender)) = IsNextSender senders receiver channel most (Ok (Some sender))
-  IsNextFrom from senders receiver channel most (Ok None) = (sender : ℕ) → from ≤ sender → sender < length senders → queue_from senders receiver channel sender ≡ []
+  IsNextFrom from senders receiver channel most (Ok (Some sender)) =
+      IsNextSender senders receiver channel most (Ok (Some sender))
+  IsNextFrom from senders receiver channel most (Ok None) =
+      (sender : ℕ) → from ≤ sender → sender < length senders → queue_from senders receiver channel sender ≡ []
   IsNextFrom from senders receiver channel most (Err ReceiveError.ExceedsMaxBorrows) =
-      ((sender : ℕ) → from ≤ sender → sender < length senders → borrowed_from senders receiver channel sender < most → queue_from senders receiver channel sender ≡ [])
-      × ((sender : ℕ) × (sender < length senders) × (most ≤ borrowed_from senders receiver channel sender) × (queue_from senders receiver channel sender ≢ []))
+      ((sender : ℕ) → from ≤ sender → sender < length senders → borrowed_from senders receiver channel sender < most
+      → queue_from senders receiver channel sender ≡ [])
+      × ((sender : ℕ) × (sender < length senders) × (most ≤ borrowed_from senders receiver channel sender)
+      × (queue_from senders receiver channel sender ≢ []))
   IsNextFrom from senders receiver channel most (Err (ReceiveError.ConnectionFailure failure)) = ⊥
 
 module _ {T N H : Type 0} (senders : List (Sender T N H)) (receiver channel most from : ℕ) where
-  -- of the senders from one on, below another, none has an entry and room; and whether one has an entry
+  -- none of the senders at or after `from` and below `n` has an entry and room; and whether one has an entry
   pub record IsLookedThrough (n : ℕ) (is_at_limit : Bool) : Type 0 where
-    pub passed : (sender : ℕ) → from ≤ sender → sender < n → borrowed_from senders receiver channel sender < most → queue_from senders receiver channel sender ≡ []
-    pub clear : is_at_limit ≡ false → (sender : ℕ) → from ≤ sender → sender < n → queue_from senders receiver channel sender ≡ []
+    pub passed : (sender : ℕ) → from ≤ sender → sender < n → borrowed_from senders receiver channel sender < most
+        → queue_from senders receiver channel sender ≡ []
+    pub clear : is_at_limit ≡ false → (sender : ℕ) → from ≤ sender → sender < n
+        → queue_from senders receiver channel sender ≡ []
     pub at_limit : is_at_limit ≡ true
-        → (sender : ℕ) × (sender < n) × (sender < length senders) × (most ≤ borrowed_from senders receiver channel sender) × (queue_from senders receiver channel sender ≢ [])
+        → (sender : ℕ) × (sender < n) × (sender < length senders)
+        × (most ≤ borrowed_from senders receiver channel sender) × (queue_from senders receiver channel sender ≢ [])
 
 module _ {Q QH P PH K : Type 0} (p : Parts Q QH P PH K) where
   -- the handle of a response that was received
@@ -64,11 +79,17 @@ module _ {Q QH P PH K : Type 0} (p : Parts Q QH P PH K) where
   with_taken_response sender receiver channel slot =
       record p {
         server_senders = slice_set p.server_senders sender
-            (with_messages (sender_of sender p.server_senders) (taken (sender_of sender p.server_senders).messages receiver channel slot (drop 1 (queue_from p.server_senders receiver channel sender))));
+            (with_messages (sender_of sender p.server_senders)
+            (taken (sender_of sender p.server_senders).messages receiver channel slot
+            (drop 1 (queue_from p.server_senders receiver channel sender))));
       }
 
   -- and has a handle
   abbrev pub with_received_response : ℕ → ℕ → ℕ → ℕ → Parts Q QH P PH K
   with_received_response sender receiver channel slot =
       let q = with_taken_response sender receiver channel slot in
-      record q { table = inserted p.table (response_details p sender slot).number (response_place p sender slot) (received_held sender slot) }
+      record q {
+        table =
+            inserted p.table (response_details p sender slot).number (response_place p sender slot)
+            (received_held sender slot);
+      }

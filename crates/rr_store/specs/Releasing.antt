@@ -1,4 +1,4 @@
--- What a release takes away, and from which part.
+-- The effect of a release, part by part.
 use Rattle.std.specs.Prelude.{◌≡◌, ℕ, Some, ◌-◌, Bool, true, false, slice_index, slice_set}
 use Rattle.std.specs.FinMap as fin_map
 use Rattle.rr_sender.specs.Senders.{Messages, borrowed_at, given_back, with_held, with_borrowed}
@@ -37,19 +37,21 @@ abbrev pub server_of_stage : Stage → ℕ
 server_of_stage (stage.ActiveRequest server loans) = server
 server_of_stage _ = 0
 
--- a slot is held once less
+-- after a slot lost one holder
 abbrev pub held_once_less : {T N H : Type 0} → Messages T N H → ℕ → Messages T N H
 held_once_less m slot = with_held m slot (slice_index m.held slot - 1)
 
--- and a receiver has one less from a channel
+-- and the receiver has one borrow less from a channel
 abbrev pub borrow_ended : {T N H : Type 0} → Messages T N H → ℕ → ℕ → ℕ → Messages T N H
-borrow_ended m receiver channel slot = held_once_less (with_borrowed m receiver channel (borrowed_at m receiver channel - 1)) slot
+borrow_ended m receiver channel slot =
+    held_once_less (with_borrowed m receiver channel (borrowed_at m receiver channel - 1)) slot
 
 -- and the slot is emptied if that was its last use
 abbrev pub borrow_given_back : {T N H : Type 0} → Messages T N H → ℕ → ℕ → ℕ → Messages T N H
-borrow_given_back m receiver channel slot = given_back (with_borrowed m receiver channel (borrowed_at m receiver channel - 1)) slot
+borrow_given_back m receiver channel slot =
+    given_back (with_borrowed m receiver channel (borrowed_at m receiver channel - 1)) slot
 
--- a sender by which no server may answer where a mark stands
+-- a sender after the mark at an index was cleared
 abbrev pub without_mark : {T N H : Type 0} → ℕ → Sender T N H → Sender T N H
 without_mark index l = record l { may_answer = slice_set l.may_answer index no_server }
 
@@ -57,9 +59,10 @@ without_mark index l = record l { may_answer = slice_set l.may_answer index no_s
 abbrev pub without_loan : {T N H : Type 0} → Sender T N H → Sender T N H
 without_loan l = record l { loans = l.loans - 1 }
 
--- a handle went with all that goes with it, and whether its port leaves is still to be asked
-pub record IsHandleGone {Q QH P PH K : Type 0} (s : State Q QH P PH K) (n port : ℕ) (t : State Q QH P PH K) : Type 0 where
-  pub handle : Handle Q QH P PH
-  pub there : handle_at s n ≡ Some handle
-  pub its_port : port_of handle ≡ port
-  pub gone : t ≡ after_handle_gone (record s { handles = fin_map.remove s.handles n }) handle
+-- a handle was released with everything that depends on it, and it remains to decide whether its port leaves
+pub record IsHandleGone {Q QH P PH K : Type 0} (s : State Q QH P PH K) (n port : ℕ) (t : State Q QH P PH K) : Type 0
+  where
+    pub handle : Handle Q QH P PH
+    pub there : handle_at s n ≡ Some handle
+    pub its_port : port_of handle ≡ port
+    pub gone : t ≡ after_handle_gone (record s { handles = fin_map.remove s.handles n }) handle

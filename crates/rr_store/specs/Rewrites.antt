@@ -1,9 +1,10 @@
--- What stays of a sender while what stands in its slots is written, or a server may not answer any more: all but the contents, the user headers and the marks.
+-- Facts about a sender that stay true when its slots are written, or when a server may no longer answer: everything
+-- but the contents, the user headers and the marks is unchanged.
 use Rattle.std.specs.Prelude.{◌≡◌, ◌<◌, ℕ, ◌==◌, Bool, false, List, length, slice_index_or}
 use Rattle.rr_store.specs.Parts.{Sender}
 use Rattle.rr_store.specs.Views.{no_server, sender_of}
 
--- a sender but for what stands in its slots and who may answer
+-- a sender without the contents of its slots and its marks
 pub record Outline (N : Type 0) : Type 0 where
   pub owner : ℕ
   pub row : ℕ
@@ -21,7 +22,21 @@ pub record Outline (N : Type 0) : Type 0 where
 -- the outline of a sender
 abbrev pub outline_of : {T N H : Type 0} → Sender T N H → Outline N
 outline_of l =
-    record { owner = l.owner; row = l.row; receiver = l.receiver; has_value = l.has_value; loans = l.loans; pendings = l.pendings; details = l.messages.details; held = l.messages.held; queues = l.messages.queues; borrowed = l.messages.borrowed; capacity = l.messages.capacity; room = l.messages.room }
+    record {
+      owner =
+          l.owner;
+      row = l.row;
+      receiver = l.receiver;
+      has_value = l.has_value;
+      loans = l.loans;
+      pendings = l.pendings;
+      details = l.messages.details;
+      held = l.messages.held;
+      queues = l.messages.queues;
+      borrowed = l.messages.borrowed;
+      capacity = l.messages.capacity;
+      room = l.messages.room;
+    }
 
 -- other contents and user headers, as many as before, and no server more that may answer
 pub record SenderRewritten {T N H : Type 0} (before after : Sender T N H) : Type 0 where
@@ -29,7 +44,9 @@ pub record SenderRewritten {T N H : Type 0} (before after : Sender T N H) : Type
   pub contents : length after.messages.contents ≡ length before.messages.contents
   pub user_headers : length after.messages.user_headers ≡ length before.messages.user_headers
   pub marks : length after.may_answer ≡ length before.may_answer
-  pub none_more : (index server : ℕ) → server < no_server → (slice_index_or before.may_answer index no_server == server) ≡ false → (slice_index_or after.may_answer index no_server == server) ≡ false
+  pub none_more : (index server : ℕ) → server < no_server
+      → (slice_index_or before.may_answer index no_server == server) ≡ false
+      → (slice_index_or after.may_answer index no_server == server) ≡ false
 
 -- in each sender
 pub record SendersRewritten {T N H : Type 0} (before after : List (Sender T N H)) : Type 0 where

@@ -1,4 +1,4 @@
--- One side of a core, as contracts see it, and what a call changes of it.
+-- One side of a core, as contracts see it, and the effects of calls on it.
 use Rattle.std.specs.Prelude.{◌≡◌, length, ℕ, List, ◌∷◌, ◌++◌, [], drop, map, slice_set}
 use Rattle.std.specs.List.{remove}
 use Rattle.rr_slots.specs.Pools.{with_elements}
@@ -9,7 +9,7 @@ use Rattle.rr_store.specs.Loaning.{with_messages, with_sender_at}
 use Rattle.rr_store.specs.Parts.{Sender}
 use Rattle.rr_store.specs.Views.{sender_of}
 
--- the senders of a side's ports, the ports, who left in the order in which they did, and how many of them there is room for
+-- the senders of a side's ports, the ports, the ports that left in the order in which they did, and the room for them
 pub record SideParts (T N H P : Type 0) : Type 0 where
   pub senders : List (Sender T N H)
   pub ports : List P
@@ -29,9 +29,13 @@ module _ {T N H P : Type 0} (s : SideParts T N H P) where
   -- with the messages of a sender changed
   abbrev pub with_sent : ℕ → (Messages T N H → Messages T N H) → SideParts T N H P
   with_sent sender change =
-      record s { senders = slice_set s.senders sender (with_messages (sender_of sender s.senders) (change (sender_of sender s.senders).messages)) }
+      record s {
+        senders =
+            slice_set s.senders sender (with_messages (sender_of sender s.senders)
+            (change (sender_of sender s.senders).messages));
+      }
 
-  -- with the message in a slot of a sender complete, by whatever elements
+  -- with the message in a slot of a sender complete, with unspecified elements
   abbrev pub CompletesSent : ℕ → ℕ → SideParts T N H P → Type 0
   CompletesSent sender slot new =
       (elements : List T) × (length elements ≡ (content_at (sender_of sender s.senders).messages slot).asked_len)
@@ -39,12 +43,13 @@ module _ {T N H P : Type 0} (s : SideParts T N H P) where
 
   -- with the oldest entry of a queue, in this slot, taken out of it
   abbrev pub with_first_taken : ℕ → ℕ → ℕ → ℕ → SideParts T N H P
-  with_first_taken sender receiver channel slot = with_sent sender (λ m. taken m receiver channel slot (drop 1 (queue_at m receiver channel)))
+  with_first_taken sender receiver channel slot =
+      with_sent sender (λ m. taken m receiver channel slot (drop 1 (queue_at m receiver channel)))
 
   -- with nothing in the queues from all senders to a receiver's channel
   abbrev pub with_channel_emptied : ℕ → ℕ → SideParts T N H P
   with_channel_emptied receiver channel = record s { senders = map (channel_cleared receiver channel) s.senders }
 
-  -- without the port at an index, which is noted as one that left
+  -- without the port at an index, which is recorded as one that left
   abbrev pub without_port : ℕ → LeftPort → SideParts T N H P
   without_port index leaving = record s { ports = remove s.ports index; left = s.left ++ leaving ∷ [] }

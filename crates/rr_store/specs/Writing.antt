@@ -1,4 +1,4 @@
--- What writing does to a sender that is stored and to the stage of a handle, and when a message can be sent.
+-- The effect of writes on a stored sender and on the stage of a handle, and when a message can be sent.
 use Rattle.std.specs.Prelude.{◌==◌, Bool, false, length}
 use Rattle.rr_slots.specs.Pools.{Written}
 use Rattle.rr_sender.specs.Senders.{Messages}
@@ -8,7 +8,7 @@ use Rattle.rr_store.specs.declared.handle_entry.Stage.{Stage}
 use Rattle.rr_store.specs.declared.handle_entry.Stage.TheVariants as stage
 use Rattle.rr_store.specs.declared.port.OwnedSender.{OwnedSender}
 
--- whether as many elements were written as are asked for
+-- whether as many elements were written as were loaned
 abbrev pub is_written : {T : Type 0} → Written T → Bool
 is_written w = length w.elements == w.asked_len
 

@@ -11,12 +11,12 @@ pub struct RequestDetails {
     pub request_id: u64,
 }
 
-/// The details of a response. What a receive and a release read stands in front, on one cache line.
+/// The details of a response. The fields that a receive and a release read come first, on one cache line.
 #[derive(Clone, Copy, Debug)]
 pub struct ResponseDetails {
     /// The response's number.
     pub number: u64,
-    /// Where the sender of the client stands that the response is for.
+    /// The index of the sender of the client that the response is for.
     pub client_sender: usize,
     /// The channel of the request that it answers.
     pub channel: usize,

@@ -1,9 +1,9 @@
-//! What is kept under the number of a handle.
+//! The entries of handles in the table.
 ghost use Rattle.std.specs.Prelude.{◌≡◌};
 ghost use Rattle.rr_store.specs.Answering.{active_in};
 ghost use Rattle.rr_store.specs.Sound.{is_pending};
 
-/// What a handle is for.
+/// The stage of a handle: what its message can be used for.
 #[derive(Clone, Copy, Debug)]
 pub enum Stage {
     /// A request that is being written.
@@ -49,7 +49,7 @@ impl Stage {
 /// A handle's stage, and the sender and slot of its message.
 #[derive(Clone, Copy, Debug)]
 pub struct HandleEntry {
-    /// What the handle is for.
+    /// The stage of the handle.
     pub stage: Stage,
     /// The sender of the port that sends the message.
     pub sender: usize,

@@ -1,4 +1,4 @@
-//! By what a caller names a handle.
+//! The id by which a caller names a handle.
 ghost use Rattle.std.specs.Prelude.{◌≡◌};
 
 use rr_table::Place;
@@ -6,7 +6,7 @@ use std::marker::Model;
 
 /// The number of a handle, and where it is kept. Contracts see the number alone.
 ///
-/// The place is tried first and checked, so that a wrong one costs a walk and nothing else. Not in iceoryx2.
+/// The place is tried first and checked, so a wrong one costs only a search. Not in iceoryx2.
 #[derive(Drop)]
 pub struct HandleId {
     number: u64,

@@ -1,5 +1,6 @@
-//! What a core keeps of ports, handles and messages: a `Store`, with a `Side` of clients and one of servers, each of whose methods
-//! reads or changes one thing. In `specs/` stands what that stands for and what is true of it, in `proofs/` what stays true.
+//! The store of ports, handles and messages of a core: a `Store`, with a `Side` of clients and one of servers, whose
+//! methods each read or change one thing. `specs/` defines what the store represents and its invariants; `proofs/`
+//! shows that they are preserved.
 #![tactic(auto)]
 
 mod details;

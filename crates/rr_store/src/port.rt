@@ -1,4 +1,4 @@
-//! What a core keeps of its connected ports, and the senders from which ports send.
+//! The connected ports of a core, and the senders from which ports send.
 ghost use Rattle.std.specs.Prelude.{◌≡◌, ◌==◌, false, IfSome, Some};
 ghost use Rattle.std.specs.List.{position};
 ghost use Rattle.rr_store.specs.Order.{IsRising};
@@ -7,8 +7,8 @@ use rr_protocol::{AllocationStrategy, BackpressureStrategy};
 use rr_sender::Sender;
 use rr_slots::Body;
 
-/// What clients and servers have in common: the settings, the index of the sender from which the port sends, and its index
-/// among the receivers of the other side.
+/// The common part of clients and servers: the settings, the index of the port's sender, and its index among the
+/// receivers of the other side.
 #[derive(Drop)]
 pub struct Port<K: Drop> {
     pub id: u64,
@@ -40,24 +40,25 @@ pub struct ServerPort<K: Drop> {
 /// The mark where no server may answer: a number that no port gets.
 pub const NO_SERVER: u64 = u64::MAX;
 
-/// What a port sends from: the port's number and its index among the receivers of the other side, the row of the table in
-/// which the handles of its messages stand, whether the port's value lives, how many messages are on loan and how many
-/// responses are pending, and for each slot, and then for each receiver, the number of the server that may still answer the
-/// slot's request. A server's sender has neither pending responses nor such marks.
+/// A sender with its owner: the port's number and its index among the receivers of the other side; the row of the
+/// table that has the handles of its messages; whether the port's value lives; how many messages are on loan and how
+/// many responses are pending; and the marks, which give for each slot and receiver the number of the server that may
+/// still answer the slot's request. A server's sender has neither pending responses nor marks.
 ///
-/// A mark names the server and not the receiver alone, so that one that remains doesn't stand for a later server that is
-/// the same receiver.
+/// A mark has the server's number and not only its receiver, so an old mark is not taken for one of a later server
+/// with the same receiver.
 #[derive(Drop)]
 pub struct OwnedSender<B: Body, N: Copy, H: Drop> {
     pub owner: u64,
     pub row: usize,
     pub receiver: usize,
     pub may_answer: Vec<u64>,
-    // With it a sender has 256 bytes, and stands where a shift of its index says and no product.
+    // With it a sender has 256 bytes, so its address is computed from its index by a shift instead of a
+    // multiplication.
     pub messages: Sender<B, N, H>,
     pub loans: usize,
-    // Between the loans and the pendings: a send changes both, and the compiler would read two neighbours as one before the first
-    // is stored.
+    // It is between the loans and the pending responses because a send changes both, and the compiler would otherwise
+    // load the two neighbours at once before the first store is done.
     pub has_value: bool,
     pub pendings: usize,
 }
@@ -69,7 +70,7 @@ pub struct LeftPort {
     pub sender: usize,
 }
 
-/// What a side asks of a connected port.
+/// The fields of a connected port that a side reads.
 #[derive(Clone, Copy, Debug)]
 pub struct PortDetails {
     /// The port's number.
@@ -98,17 +99,17 @@ pub trait ConnectedPort: Drop {
     /// Whether its value lives.
     ghost has_value: { Self → Bool };
 
-    /// The port once its value is gone.
+    /// The port after its value was released.
     ghost valueless: { Self → Self };
 
-    /// Returns what a side asks of the port.
+    /// Returns the fields of the port that a side reads.
     fn details(&self) -> PortDetails
         ensures id { result.id ≡ id self.now }
         ensures receiver { result.receiver ≡ receiver self.now }
         ensures sender { result.sender ≡ sender self.now }
         ensures has_value { result.has_value ≡ has_value self.now };
 
-    /// Notes that its value is gone.
+    /// Records that the port's value was released.
     fn end_value(&mut self)
         ensures { self.new ≡ valueless self.old };
 }
@@ -165,7 +166,7 @@ impl<K: Drop> ConnectedPort for ServerPort<K> {
     }
 }
 
-/// Returns an index among the ports, whose numbers rise, if the one with this number stands there.
+/// Returns `index` if the port at it has this number. The ports' numbers rise.
 #[inline(always)]
 pub(crate) fn index_if_at<P: ConnectedPort>(ports: &[P], index: usize, id: u64) -> Option<usize>
     requires { IsRising P.id ports.now }
@@ -179,10 +180,10 @@ pub(crate) fn index_if_at<P: ConnectedPort>(ports: &[P], index: usize, id: u64) 
     None
 }
 
-/// Returns where among the ports, whose numbers rise, the one with this number stands, in O(log ports).
+/// Returns the index of the port with this number, in O(log ports). The ports' numbers rise.
 ///
-/// It stands at most as far behind the first one as its number is above that one's, and at most as far before the last one as its
-/// number is below that one's. What is left is halved.
+/// Since the numbers rise, the index exceeds that of the first port by at most the difference of the numbers, and
+/// likewise from the last port backwards. A binary search covers the range that is left.
 #[cold]
 pub(crate) fn index_by_halving<P: ConnectedPort>(ports: &[P], id: u64) -> Option<usize>
     requires { IsRising P.id ports.now }

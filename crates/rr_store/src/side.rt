@@ -1,4 +1,4 @@
-//! One side of a store: its connected ports, the senders from which they send, and who left.
+//! One side of a store: its connected ports, their senders, and the ports that left.
 ghost use Rattle.std.specs.Prelude.{◌≡◌};
 ghost use Rattle.rr_store.specs.Sides.{start_side};
 
@@ -18,14 +18,14 @@ mod skimming;
 mod slots;
 mod waiting;
 
-/// The clients of a service with all requests, or the servers with all responses. Contracts see it as parts, of which nothing is
-/// claimed: each method reads or changes one thing. They don't see from which senders something may wait, which each side knows of
-/// itself (`KnowsWaiting`).
+/// The clients of a service with all requests, or the servers with all responses. Contracts see it as parts, without
+/// an invariant: each method reads or changes one thing. They don't see which senders are marked as waiting; that is
+/// the side's own invariant (`KnowsWaiting`).
 ///
-/// A message stands once, in a slot of the sender of the port that sends it; entries of queues name it by that slot.
+/// A message is in one slot only, of the sender of the port that sends it; entries of queues name it by that slot.
 #[derive(Drop)]
 pub struct Side<B: Body, N: Copy, H: Drop, P: Drop> {
-    /// What the ports send from. The sender of a port that left stays for those who have its messages.
+    /// The senders of the ports. The sender of a port that left stays as long as others have its messages.
     pub senders: Vec<OwnedSender<B, N, H>>,
     /// The connected ports, in the order of their numbers.
     pub ports: Vec<P>,
@@ -33,7 +33,8 @@ pub struct Side<B: Body, N: Copy, H: Drop, P: Drop> {
     pub left: Vec<LeftPort>,
     /// From which senders something may wait for each receiver.
     pub(crate) waiting: Waiting,
-    /// What a slot that isn't there would show. Contracts alone speak of it: a reading of a slot has to be defined for each index.
+    /// The header that a slot that doesn't exist would have. Only contracts use it: reading a slot has to be defined
+    /// for each index.
     pub spare_header: H,
 }
 

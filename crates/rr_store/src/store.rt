@@ -1,4 +1,4 @@
-//! What a core keeps, as one value.
+//! The store of a core, as one value.
 use crate::side::Side;
 use crate::{ClientPort, HandleEntry, RequestDetails, ResponseDetails, ServerPort};
 use rr_protocol::{BackpressureFn, Limits, UniqueNodeId};
@@ -11,17 +11,17 @@ mod handles;
 /// How many numbers a store gives to ports and handles: 2^62, as many as iceoryx2 has request ids.
 pub const NUMBERS: u64 = 4611686018427387904;
 
-/// All ports, handles and messages of a service, in the open: a call of a core changes the side, or the table, that it speaks of.
-/// `opened` tells what it is as parts.
+/// All ports, handles and messages of a service, in public fields: a call of a core changes the side or the table
+/// that it concerns. `opened` gives its parts.
 ///
 /// A handle is an entry of the table, under its number; it names its message by sender and slot.
 ///
-/// `QB` and `QH` are the body and the user header of requests, `PB` and `PH` those of responses, and `K` is the type of
-/// backpressure handlers.
+/// `QB` and `QH` are the body and the user header of requests, `PB` and `PH` those of responses, and `K` is the type
+/// of backpressure handlers.
 #[derive(Drop)]
 pub struct Store<QB: Body, QH: Default + Drop, PB: Body, PH: Default + Drop, K: BackpressureFn> {
-    // What nearly every call looks at stands in front, where an instruction reaches it with a byte.
-    /// The number that is given next.
+    // The fields that nearly every call reads come first, where an instruction addresses them with one byte. The next
+    // number to assign.
     pub next: u64,
     /// The clients, and all requests.
     pub clients: Side<QB, RequestDetails, QH, ClientPort<K>>,
@@ -33,8 +33,8 @@ pub struct Store<QB: Body, QH: Default + Drop, PB: Body, PH: Default + Drop, K: 
     pub limits: Limits,
     /// The node.
     pub node_id: UniqueNodeId,
-    /// At which client's sender each server looks first, on its one channel.
+    /// For each server, the client's sender to poll first, on its one channel.
     pub request_turns: Turns,
-    /// At which server's sender each client looks first, on each of its channels.
+    /// For each client and channel, the server's sender to poll first.
     pub response_turns: Turns,
 }

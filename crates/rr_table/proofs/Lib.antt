@@ -6,3 +6,8 @@ pub mod Vectors
 pub mod TableLaws
 pub mod Here
 pub mod Values
+pub mod ListFacts
+pub mod MapFacts
+pub mod MapLaws
+pub mod Counting
+pub mod Members

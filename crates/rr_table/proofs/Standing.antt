@@ -7,7 +7,7 @@ use Rattle.std.specs.FinMap.{FinMap, get, insert, remove, find, same_map, nat_cm
 use Rattle.std.proofs.lemmas.Bool.{cases_eq, cases_lt}
 use Rattle.std.proofs.lemmas.List.{length-set, get_or-set_same, get_or-set_other, get_or_past}
 use Rattle.std.proofs.Math.Seq.{map-set_same}
-use Rattle.rr_map_laws.proofs.MapLaws.{tied_same, tied_other, get-insert_same, get-insert_other, get-remove_same, get-remove_other}
+use Rattle.rr_table.proofs.MapLaws.{tied_same, tied_other, get-insert_same, get-insert_other, get-remove_same, get-remove_other}
 use Rattle.rr_table.specs.TableView.{TableEntry, table_entry, inserted, removed, value_at, IsVacant}
 use Rattle.rr_table.specs.Places.{place, entry, in_row, in_rows, table_of, standing, IsDistinct, IsPlaceOf}
 use Rattle.rr_table.specs.declared.place.Place.{Place}

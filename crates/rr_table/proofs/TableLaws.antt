@@ -3,7 +3,7 @@ use Rattle.std.proofs.Common.{◌≡◌, ℕ, Option, Some, None, refl, sym, ap,
 use Rattle.std.specs.Prelude.{◌≢◌, option_map}
 use Rattle.std.specs.Ordering.{nat_cmp}
 use Rattle.std.specs.FinMap.{get, get-empty}
-use Rattle.rr_map_laws.proofs.MapLaws.{get-insert_cases, get-remove_cases}
+use Rattle.rr_table.proofs.MapLaws.{get-insert_cases, get-remove_cases}
 use Rattle.rr_table.proofs.Rows.{outside_some}
 use Rattle.rr_table.specs.TableView.{TableEntry, TableView, empty_table, value_at, inserted, removed, IsVacant, IsRenewed}
 use Rattle.rr_table.specs.declared.place.Place.{Place}

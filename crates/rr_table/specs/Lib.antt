@@ -1,2 +1,3 @@
 pub mod TableView
 pub mod Places
+pub mod Maps

@@ -1,4 +1,4 @@
--- How rows of places stand for a table.
+-- The table that rows of places represent.
 use Rattle.std.specs.Prelude.{◌≡◌, ◌≢◌, ℕ, ◌+◌, ◌==◌, if◌then◌else◌, Option, None, Some, List, [], ◌∷◌, ◌++◌, map, length, slice_index_or, Vec}
 use Rattle.std.specs.Global.{Global}
 use Rattle.std.specs.FinMap as map
@@ -20,7 +20,7 @@ module _ {E : Type 0} where
   abbrev pub entry : ℕ → E → Entry E
   entry n v = record { number = n; value = v }
 
-  -- an entry as what stands in its place, or None where the place is vacant
+  -- an entry as the content of its place, or None if the place is vacant
   abbrev pub occupied : Entry E → Option (Entry E)
   occupied e = if e.number == vacant_number then None else Some e
 
@@ -32,18 +32,18 @@ module _ {E : Type 0} where
   abbrev pub rows_of : Vec (Row E) Global → List (List (Option (Entry E)))
   rows_of rows = map places_of rows.items
 
-  -- what stands in row r, from place i on
+  -- the entries in row r, from place i on
   abbrev pub in_row : ℕ → ℕ → List (Option (Entry E)) → List (ℕ × TableEntry E)
   in_row r i [] = []
   in_row r i (None ∷ xs) = in_row r (i + 1) xs
   in_row r i (Some e ∷ xs) = (e.number, table_entry (place r i) e.value) ∷ in_row r (i + 1) xs
 
-  -- what stands in the rows, the first of them row r
+  -- the entries in the rows, the first of which is row r
   abbrev pub in_rows : ℕ → List (List (Option (Entry E))) → List (ℕ × TableEntry E)
   in_rows r [] = []
   in_rows r (row ∷ rows) = in_row r 0 row ++ in_rows (r + 1) rows
 
-  -- the table that the rows stand for
+  -- the table that the rows represent
   abbrev pub table_of : List (List (Option (Entry E))) → TableView E
   table_of rows = record { entries = map.from_entries (in_rows 0 rows); rows = map length rows }
 
@@ -56,16 +56,18 @@ module _ {E : Type 0} where
   of_number n None = None
   of_number n (Some e) = if e.number == n then Some e else None
 
-  -- no number stands in two places
+  -- no number is in two places
   abbrev pub IsDistinct : List (List (Option (Entry E))) → Type 0
-  IsDistinct rows = (p q : Place) (a b : Entry E) → standing rows p ≡ Some a → standing rows q ≡ Some b → a.number ≡ b.number → p ≡ q
+  IsDistinct rows =
+      (p q : Place) (a b : Entry E) → standing rows p ≡ Some a → standing rows q ≡ Some b → a.number ≡ b.number
+      → p ≡ q
 
-  -- where the number stands in the row, or None where it stands nowhere in it
+  -- the index of the number in the row, or None if the row doesn't have it
   abbrev pub IsIndexOf : List (Option (Entry E)) → ℕ → Option ℕ → Type 0
   IsIndexOf row n None = (i : ℕ) (e : Entry E) → slice_index_or row i None ≡ Some e → e.number ≢ n
   IsIndexOf row n (Some i) = (e : Entry E) × (slice_index_or row i None ≡ Some e) × (e.number ≡ n)
 
-  -- where the number stands, or None where it stands nowhere
+  -- the place of the number, or None if no row has it
   abbrev pub IsPlaceOf : List (List (Option (Entry E))) → ℕ → Option Place → Type 0
   IsPlaceOf rows n None = (p : Place) (e : Entry E) → standing rows p ≡ Some e → e.number ≢ n
   IsPlaceOf rows n (Some p) = (e : Entry E) × (standing rows p ≡ Some e) × (e.number ≡ n)

@@ -1,4 +1,5 @@
-//! A table of values under numbers, each in a fixed place of a row.
+//! A table of values by number, each in a fixed place of a row; and in `specs/` and `proofs/` words and laws on lists
+//! and finite maps that std lacks.
 #![tactic(auto)]
 
 mod place;

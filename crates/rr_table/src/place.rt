@@ -1,10 +1,10 @@
-//! Where a value stands.
+//! Places of values in a table.
 
 /// A place of a table: a row, and an index in that row.
 #[derive(Clone, Copy, Debug, PartialEq, Eq)]
 pub struct Place {
-    /// Which row, from 0 on.
+    /// The row, from 0 on.
     pub row: usize,
-    /// Which place of the row, from 0 on.
+    /// The place in the row, from 0 on.
     pub index: usize,
 }

@@ -6,7 +6,7 @@ ghost use Rattle.rr_table.specs.Places.{of_number, places_of, rows_of, standing,
 use crate::place::Place;
 use crate::table::{Entry, Row, VACANT};
 
-/// Returns the entry of a number if it stands in this place, or `None` if another number does, or none, or the place is
+/// Returns the entry of a number if it is in this place, or `None` if the place has another number, is vacant, or is
 /// outside the rows.
 ///
 /// Compares the number before it tests it for `VACANT`, so that a caller that asks twice tests it once.
@@ -27,7 +27,7 @@ pub(crate) fn entry_at<E: Copy>(rows: &Vec<Row<E>>, number: u64, place: Place) -
     None
 }
 
-/// Returns whether a number, which is not the vacant one, stands in a place.
+/// Returns whether a number, which is not the vacant one, is in a place.
 #[inline(always)]
 pub(crate) fn is_number_at<E: Copy>(rows: &Vec<Row<E>>, number: u64, place: Place) -> bool
     requires { number ≢ vacant_number }
@@ -41,8 +41,8 @@ pub(crate) fn is_number_at<E: Copy>(rows: &Vec<Row<E>>, number: u64, place: Plac
     false
 }
 
-/// The place of a number: `first` where the number stands there, and else what a walk over the rows finds. None where
-/// the number stands nowhere.
+/// Returns the place of a number: `first` if the number is in it, and otherwise the result of a search of the rows.
+/// Returns `None` if no row has the number.
 #[cold]
 pub(crate) fn seek<E: Copy>(rows: &Vec<Row<E>>, number: u64, first: Place) -> Option<Place>
     ensures { IsPlaceOf (rows_of rows.now) number result }
@@ -58,7 +58,7 @@ pub(crate) fn seek<E: Copy>(rows: &Vec<Row<E>>, number: u64, first: Place) -> Op
     None
 }
 
-/// The index of a number in one row, or None where it does not stand there.
+/// Returns the index of a number in one row, or `None` if the row doesn't have it.
 fn seek_in_row<E: Copy>(row: &Row<E>, number: u64) -> Option<usize>
     ensures { IsIndexOf (places_of row.now) number result }
 {

@@ -10,7 +10,7 @@ use crate::seek::{entry_at, is_number_at, seek};
 use std::alloc::{AllocError, Global};
 use std::marker::Model;
 
-/// The number of an entry in a vacant place. No value stands under it.
+/// The number of the entry in a vacant place. No value has it.
 pub(crate) const VACANT: u64 = u64::MAX;
 
 /// A value under its number, or a vacant place, where the number is `VACANT` and the value says nothing.
@@ -24,11 +24,11 @@ pub(crate) struct Entry<E: Copy> {
 #[derive(Drop)]
 pub(crate) struct Row<E: Copy> {
     pub(crate) places: Vec<Entry<E>>,
-    // With it a row has 32 bytes, and stands where a shift of its index says and no product.
+    // With it a row has 32 bytes, so its address is computed from its index by a shift instead of a multiplication.
     pub(crate) padding: u64,
 }
 
-/// Values under numbers, each in a fixed place of a row. No number stands in two places.
+/// Values by number, each in a fixed place of a row. No number is in two places.
 #[derive(Drop)]
 pub struct Table<E: Copy> {
     rows: Vec<Row<E>>,
@@ -58,8 +58,8 @@ impl<E: Copy> Table<E> {
         }
     }
 
-    /// Adds a last row of `len` vacant places and gives its number. Nothing else changes. `AllocError` where there is no
-    /// memory for the row; the table is then as it was. `filler` is what a place holds while it is vacant.
+    /// Appends a row of `len` vacant places and returns its index. Changes nothing else. `AllocError` if there is no
+    /// memory for the row; the table is unchanged then. `filler` is the value of a vacant place.
     pub fn add_row(&mut self, alloc: Global, len: usize, filler: E) -> Result<usize, AllocError>
         ensures row { IfOk result (λ row. row ≡ length self.old.rows) }
         ensures ok { OnOk result (self.new ≡ with_row self.old len) }
@@ -71,9 +71,9 @@ impl<E: Copy> Table<E> {
         Ok(row)
     }
 
-    /// Gives a row `len` vacant places. The numbers that stood in that row are gone, and nothing else changes.
-    /// `AllocError` where there is no memory for the places; the table is then as it was. `filler` is what a place holds
-    /// while it is vacant.
+    /// Makes a row anew, with `len` vacant places. Removes the numbers of that row, and changes nothing else.
+    /// `AllocError` if there is no memory for the places; the table is unchanged then. `filler` is the value of a
+    /// vacant place.
     pub fn renew_row(
         &mut self,
         alloc: Global,
@@ -104,7 +104,7 @@ impl<E: Copy> Table<E> {
         }
     }
 
-    /// The value under a number, if it stands in this very place. None else, whatever stands there. It looks at no other
+    /// Returns the value under a number, if the number is in exactly this place, and otherwise `None`. Reads no other
     /// place.
     #[inline(always)]
     pub fn get_at(&self, number: u64, place: Place) -> Option<E>
@@ -116,7 +116,7 @@ impl<E: Copy> Table<E> {
         }
     }
 
-    /// Returns whether a number stands in a place. Looks at no other place.
+    /// Returns whether a number is in a place. Reads no other place.
     #[inline(always)]
     pub fn is_at(&self, number: u64, place: Place) -> bool
         ensures there { result ≡ true → IsAt self.now number place }
@@ -125,7 +125,7 @@ impl<E: Copy> Table<E> {
         entry_at(&self.rows, number, place).is_some()
     }
 
-    /// Returns whether a number that stands somewhere stands in this place. Looks at no other place.
+    /// Returns whether a number that the table has is in this place. Reads no other place.
     #[inline(always)]
     pub fn is_place_of(&self, number: u64, place: Place) -> bool
         requires { map.get self.now.entries number ≢ None }
@@ -135,7 +135,7 @@ impl<E: Copy> Table<E> {
         is_number_at(&self.rows, number, place)
     }
 
-    /// Returns the value under a number from the place where it stands.
+    /// Returns the value under a number, which is in this place.
     #[inline(always)]
     pub fn at(&self, number: u64, place: Place) -> E
         requires { IsAt self.now number place }
@@ -146,7 +146,7 @@ impl<E: Copy> Table<E> {
         self.rows[place.row].places[place.index].value
     }
 
-    /// Replaces the value under a number in the place where it stands.
+    /// Replaces the value under a number, which is in this place.
     #[inline(always)]
     pub fn set_at(&mut self, number: u64, place: Place, value: E)
         requires { IsAt self.old number place }
@@ -157,7 +157,7 @@ impl<E: Copy> Table<E> {
         self.rows[place.row].places[place.index].value = value;
     }
 
-    /// Takes a number and its value out of the place where they stand, which is vacant then.
+    /// Removes a number and its value from its place, which is vacant then.
     #[inline(always)]
     pub fn take_at(&mut self, number: u64, place: Place) -> E
         requires { IsAt self.old number place }
@@ -170,7 +170,7 @@ impl<E: Copy> Table<E> {
         value
     }
 
-    /// Returns where a number stands, or `None` if it stands nowhere. Walks over the rows.
+    /// Returns the place of a number, or `None` if the table doesn't have it. Searches the rows.
     #[cold]
     pub fn find(&self, number: u64) -> Option<Place>
         ensures { result ≡ option_map (λ s. s.place) (map.get self.now.entries number) }

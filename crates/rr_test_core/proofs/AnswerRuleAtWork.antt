@@ -3,9 +3,9 @@ use Rattle.std.specs.List.{list_any}
 use Rattle.std.proofs.Common.{◌≡◌, ◌≤◌, ◌+◌, ℕ, Bool, true, false, ◌&&◌, ◌||◌, ◌==◌, if◌then◌else◌, List, [], ◌∷◌, ◌++◌, refl, sym, ap, ◌∙◌, inl, inr, arith}
 use Rattle.rr_protocol.specs.declared.settings.ServerSettings.{ServerSettings}
 use Rattle.rr_protocol.specs.declared.settings.BackpressureStrategy.{BackpressureStrategy}
-use Rattle.rr_commands.specs.declared.command.Command.{Command}
-use Rattle.rr_commands.specs.declared.reply.Reply.{Reply}
-use Rattle.rr_commands.specs.AnswerRule.{Event, IsSubsequence, IsPrefix, ReceivesOnce, ReceivesInOrder, ReceivesWithoutGap, ReceivesAll, AnswersTheRequest, KeepsAnswerRule, sent_for, received_from}
+use Rattle.rr_protocol.specs.declared.command.Command.{Command}
+use Rattle.rr_protocol.specs.declared.reply.Reply.{Reply}
+use Rattle.rr_protocol.specs.AnswerRule.{Event, IsSubsequence, IsPrefix, ReceivesOnce, ReceivesInOrder, ReceivesWithoutGap, ReceivesAll, AnswersTheRequest, KeepsAnswerRule, sent_for, received_from}
 use Rattle.rr_test_core.proofs.States.{NoHandler, not_true, limits, client, server}
 
 abbrev Events : Type 0

@@ -15,9 +15,9 @@ use Rattle.rr_protocol.specs.State.{handle_at}
 use Rattle.rr_protocol.specs.Loans.{with_loaned_request}
 use Rattle.rr_protocol.specs.Sends.{SendsRequest}
 use Rattle.rr_protocol.specs.Receives.{is_dead, TakesRequest, Skims, TakesResponse}
-use Rattle.rr_commands.specs.Step.{with_complete}
-use Rattle.rr_commands.specs.declared.command.Command.{Command}
-use Rattle.rr_commands.specs.declared.reply.Reply.{Reply}
+use Rattle.rr_protocol.specs.Step.{with_complete}
+use Rattle.rr_protocol.specs.declared.command.Command.{Command}
+use Rattle.rr_protocol.specs.declared.reply.Reply.{Reply}
 use Rattle.rr_test_core.proofs.Literals.{literals}
 use Rattle.rr_test_core.proofs.States.{HubState, StepOf, answer, answered, asked_again, borrowed, client_port, idle, not_true, one_full_queue, place_taken_again, port, question, queued}
 

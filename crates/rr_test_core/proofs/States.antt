@@ -12,9 +12,9 @@ use Rattle.rr_protocol.specs.Messages.{RequestMessage, ResponseMessage, Handle}
 use Rattle.rr_protocol.specs.Keys.{RequestKey, ResponseKey}
 use Rattle.rr_protocol.specs.Ports.{Port, Client, Server}
 use Rattle.rr_protocol.specs.State.{State}
-use Rattle.rr_commands.specs.declared.command.Command.{Command}
-use Rattle.rr_commands.specs.declared.reply.Reply.{Reply}
-use Rattle.rr_commands.specs.Step.{Step}
+use Rattle.rr_protocol.specs.declared.command.Command.{Command}
+use Rattle.rr_protocol.specs.declared.reply.Reply.{Reply}
+use Rattle.rr_protocol.specs.Step.{Step}
 
 pub not_true : false ≡ true → ⊥
 not_true e = cc

@@ -1,5 +1,5 @@
-//! What tests alone show of the crates below the ports: values and texts of iceoryx2, calls that nothing above makes, and comparisons
-//! that other tests rest on.
+//! Tests of the crates below the ports, of what no proof shows: values and texts of iceoryx2, calls that nothing
+//! above makes, and comparisons that other tests rest on.
 //!
 //! - Limits: the defaults of iceoryx2, the sizes of pools, and which limits are refused first (`limits`).
 //! - The texts of errors (`errors`).

@@ -3,16 +3,15 @@ ghost use Rattle.std.specs.Prelude.{◌≡◌};
 
 use crate::commands::{Asked, CLIENT, SERVER, is_want};
 use crate::stage::{LIMITS, Stage};
-use rr_commands::Command;
 use rr_locked::{Book, LockedHub, PARTS, Seat, Submit};
-use rr_protocol::UniqueNodeId;
+use rr_protocol::{Command, UniqueNodeId};
 use std::alloc::Global;
 use std::io::{self, Write};
 use std::marker::Brand;
 use std::sync::Wait;
 use std::sync::ledger::{Blank, Ledger};
 
-/// What comes before a call that finds no room in history and seat: four entries.
+/// The four entries before a call that finds no room in the history or the seat.
 const FOUR: [Asked; 4] = [
     CLIENT,
     SERVER,
@@ -64,7 +63,7 @@ fn apply<L: Ledger, W: Write>(
     Ok(is_want(&reply))
 }
 
-/// Tells the story of a book's call. Returns whether memory was found for all that comes before it.
+/// Runs the story of a book's call. Returns whether there was memory for everything before it.
 fn tell_book<L: Ledger, W: Write>(
     alloc: Global,
     stage: &mut Stage<W>,
@@ -93,7 +92,7 @@ fn tell_book<L: Ledger, W: Write>(
     Ok(true)
 }
 
-/// Tells the story of a submission. Returns whether memory was found for all that comes before it.
+/// Runs the story of a submission. Returns whether there was memory for everything before it.
 fn tell_hub<L: Ledger, R: Wait, W: Write>(
     rt: &R,
     alloc: Global,
@@ -162,7 +161,8 @@ fn new_hub<L: Ledger, W: Write>(alloc: Global, stage: &mut Stage<W>, blank: Blan
     }
 }
 
-/// Tells of books and of those that threads share. Returns whether memory was found for all that comes before the calls.
+/// Runs the stories of books and of those that threads share. Returns whether there was memory for everything before
+/// the calls.
 pub(crate) fn tell<R: Wait, W: Write>(
     rt: &R,
     alloc: Global,

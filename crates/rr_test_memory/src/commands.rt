@@ -1,9 +1,9 @@
 //! Commands of a runner, in both families.
 use crate::stage::{LIMITS, Stage};
-use rr_commands::{Command, Reply};
 use rr_protocol::{
-    AllocationStrategy, BackpressureStrategy, ClientCreateError, ClientSettings, LoanError,
-    NoHandler, RequestSendError, SendError, ServerCreateError, ServerSettings, UniqueNodeId,
+    AllocationStrategy, BackpressureStrategy, ClientCreateError, ClientSettings, Command,
+    LoanError, NoHandler, Reply, RequestSendError, SendError, ServerCreateError, ServerSettings,
+    UniqueNodeId,
 };
 use rr_run::Runner;
 use rr_slots::{SliceBody, WriteBody};
@@ -54,8 +54,8 @@ const POWER_OF_TWO_SERVER: Asked = Command::CreateServer(ServerSettings {
     loans: 2,
 });
 
-/// What comes before a call: a client 0 and a server 1, a request 2 that the server received as 3, a response 4 and a request 5
-/// that nobody received yet, and a request 6 of `len` elements on loan.
+/// The commands before a call: a client 0 and a server 1, a request 2 that the server received as 3, a response 4 and
+/// a request 5 that nobody received yet, and a request 6 of `len` elements on loan.
 fn before(story: &Story) -> [Asked; 7] {
     [
         story.client,
@@ -68,8 +68,9 @@ fn before(story: &Story) -> [Asked; 7] {
     ]
 }
 
-/// What comes after each call, which gives the number 7 if it gives one, and the number 4 if it receives the response. None of it
-/// takes memory: the call's port or handle can be asked and released, and so can those before it.
+/// The commands after each call, which assigns the number 7 if it assigns one, and the number 4 if it receives the
+/// response. None of them takes memory: the call's port or handle can be queried and released, and so can those
+/// before it.
 const AFTER: [Asked; 14] = [
     Command::Header(7),
     Command::UserHeader(7),
@@ -134,7 +135,8 @@ fn stories() -> [Story; 11] {
     ]
 }
 
-/// The calls of the sliced family that ask for more elements than a slot has room for from the start, or that copy several.
+/// The calls of the sliced family that ask for more elements than a slot has room for from the start, or that copy
+/// several.
 fn longer() -> [Story; 7] {
     [
         plain("Loan-request-PowerOfTwo", Command::Loan(0, 40)),
@@ -195,7 +197,7 @@ fn play<B: WriteBody<Item = u64>, W: Write>(
     Ok(())
 }
 
-/// Tells stories of one family. Returns whether memory was found for all that comes before their calls.
+/// Runs the stories of one family. Returns whether there was memory for everything before their calls.
 fn tell_family<B: WriteBody<Item = u64>, W: Write>(
     alloc: Global,
     stage: &mut Stage<W>,
@@ -219,7 +221,7 @@ fn tell_family<B: WriteBody<Item = u64>, W: Write>(
     Ok(true)
 }
 
-/// Tells of the commands of both families. Returns whether memory was found for all that comes before them.
+/// Runs the stories of the commands of both families. Returns whether there was memory for everything before them.
 pub(crate) fn tell<W: Write>(alloc: Global, stage: &mut Stage<W>) -> io::Result<bool> {
     Ok(
         tell_family::<Option<u64>, W>(alloc, stage, "typed", stories().as_slice())?

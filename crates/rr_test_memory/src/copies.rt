@@ -1,14 +1,14 @@
 //! Copies of elements and of replies.
 use crate::commands::Answer;
 use crate::stage::Stage;
-use rr_commands::{Elements, Reply};
+use rr_protocol::{Elements, Reply};
 use std::alloc::Global;
 use std::io::{self, Write};
 
 /// The names of the stories.
 const NAMES: [&str; 2] = ["copied-of-one", "copied-of-three"];
 
-/// Returns what the story of this name copies, if memory was found for it.
+/// Returns the elements that the story of this name copies, if there was memory for them.
 fn elements(alloc: Global, name: &str) -> Option<Elements<u64>> {
     if name == "copied-of-one" {
         return Some(Elements::from([7]));
@@ -19,7 +19,7 @@ fn elements(alloc: Global, name: &str) -> Option<Elements<u64>> {
     }
 }
 
-/// Copies elements, and copies them again if no memory was found.
+/// Copies elements, and copies them again if there was no memory.
 fn copy<W: Write>(alloc: Global, stage: &mut Stage<W>, elements: &Elements<u64>) -> io::Result<()> {
     for _ in 0..2 {
         match elements.copied(alloc) {
@@ -30,7 +30,7 @@ fn copy<W: Write>(alloc: Global, stage: &mut Stage<W>, elements: &Elements<u64>)
     Ok(())
 }
 
-/// Copies a reply, and copies it again if no memory was found.
+/// Copies a reply, and copies it again if there was no memory.
 fn copy_reply<W: Write>(alloc: Global, stage: &mut Stage<W>, reply: &Answer) -> io::Result<()> {
     for _ in 0..2 {
         match reply.copied(alloc) {
@@ -41,7 +41,7 @@ fn copy_reply<W: Write>(alloc: Global, stage: &mut Stage<W>, reply: &Answer) -> 
     Ok(())
 }
 
-/// Tells of copies. Returns whether memory was found for what is copied.
+/// Runs the stories of copies. Returns whether there was memory for the originals.
 pub(crate) fn tell<W: Write>(alloc: Global, stage: &mut Stage<W>) -> io::Result<bool> {
     for name in NAMES {
         if stage.has("elements", name) {

@@ -1,8 +1,7 @@
 //! Making a runner, lists of commands, and lists that show a pool.
 use crate::commands::{Asked, CLIENT, SERVER, prepare};
 use crate::stage::{LIMITS, Stage};
-use rr_commands::Command;
-use rr_protocol::{NoHandler, UniqueNodeId};
+use rr_protocol::{Command, NoHandler, UniqueNodeId};
 use rr_run::{LeastPoolError, Runner, least_pool, run};
 use std::alloc::Global;
 use std::io::{self, Write};
@@ -29,7 +28,8 @@ fn make<W: Write>(alloc: Global, stage: &mut Stage<W>) -> io::Result<()> {
     }
 }
 
-/// Runs a list, and runs it again if no memory was found for its replies. Returns whether memory was found for the ports before.
+/// Runs a list, and runs it again if there was no memory for its replies. Returns whether there was memory for the
+/// ports before.
 fn run_list<W: Write>(alloc: Global, stage: &mut Stage<W>) -> io::Result<bool> {
     if !stage.has("runner", "run") {
         return Ok(true);
@@ -67,7 +67,7 @@ fn show_pool<W: Write>(alloc: Global, stage: &mut Stage<W>) -> io::Result<Option
     }
 }
 
-/// Fills a pool, and fills one again if no memory was found.
+/// Fills a pool, and fills one again if there was no memory.
 fn fill<W: Write>(alloc: Global, stage: &mut Stage<W>) -> io::Result<()> {
     if !stage.has("runner", "least_pool") {
         return Ok(());
@@ -82,7 +82,7 @@ fn fill<W: Write>(alloc: Global, stage: &mut Stage<W>) -> io::Result<()> {
     Ok(())
 }
 
-/// Tells of runners and their lists. Returns whether memory was found for all that comes before the calls.
+/// Runs the stories of runners and their lists. Returns whether there was memory for everything before the calls.
 pub(crate) fn tell<W: Write>(alloc: Global, stage: &mut Stage<W>) -> io::Result<bool> {
     make(alloc, stage)?;
     fill(alloc, stage)?;

@@ -1,8 +1,9 @@
 //! Calls that take memory. `tests/memory/run.py` refuses it to them, one request after another.
 //!
-//! The two words after the program's name are those of a story; without them all stories are told. A story prints `call` and its
-//! words when all before its call is done; then what the call returned, and, if that is want of memory, what the same call returned
-//! when it was made again; and then what is there. The status is 4 if memory for what comes before a call was refused.
+//! The two words after the program's name select a story; without them all stories run. A story prints `call` and its
+//! words once everything before its call is done; then the call's result, and, if that is want of memory, the result
+//! of the same call when it was made again; and then the state. The status is 4 if memory for the commands before a
+//! call was refused.
 #![tactic(auto)]
 
 mod books;
@@ -18,7 +19,7 @@ use std::rt::Env;
 use std::sync::Wait;
 use std::{env, io};
 
-/// Tells the story of these words, or all. Returns whether memory was found for all that comes before the calls.
+/// Runs the story of these words, or all. Returns whether there was memory for everything before the calls.
 fn tell<R: AllocGlobal + Print + Wait>(rt: &R, only: Option<(&str, &str)>) -> io::Result<bool> {
     let alloc = rt.alloc();
     let mut stage = Stage {

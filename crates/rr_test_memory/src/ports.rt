@@ -95,7 +95,7 @@ const STORIES: [Story; 4] = [
     },
 ];
 
-/// Tells of creations in one family. Returns whether memory was found for all that comes before them.
+/// Runs the stories of creations in one family. Returns whether there was memory for everything before them.
 fn tell_family<B: WriteBody<Item = u64>, W: Write>(
     alloc: Global,
     stage: &mut Stage<W>,
@@ -131,7 +131,7 @@ fn make<W: Write>(alloc: Global, stage: &mut Stage<W>) -> io::Result<()> {
     }
 }
 
-/// Tells of hubs and ports. Returns whether memory was found for all that comes before the calls.
+/// Runs the stories of hubs and ports. Returns whether there was memory for everything before the calls.
 pub(crate) fn tell<W: Write>(alloc: Global, stage: &mut Stage<W>) -> io::Result<bool> {
     make(alloc, stage)?;
     Ok(

@@ -1,4 +1,4 @@
-//! Where stories are told.
+//! The stage on which stories run.
 use rr_protocol::Limits;
 use std::fmt::Debug;
 use std::io::{self, Write};
@@ -15,7 +15,7 @@ pub(crate) const LIMITS: Limits = Limits {
     ..Limits::SMALLEST
 };
 
-/// What is written to, and the group and name of the one story that is told, if not all are.
+/// The output, and the group and name of the only story to run, if not all run.
 #[derive(Drop)]
 pub(crate) struct Stage<'a, W> {
     pub(crate) output: W,
@@ -23,7 +23,7 @@ pub(crate) struct Stage<'a, W> {
 }
 
 impl<W: Write> Stage<'_, W> {
-    /// Returns whether this story is told.
+    /// Returns whether this story runs.
     pub(crate) fn has(&self, group: &str, name: &str) -> bool {
         match self.only {
             Some((one, other)) => one == group && other == name,
@@ -36,7 +36,7 @@ impl<W: Write> Stage<'_, W> {
         writeln!(self.output, "call {group} {name}")
     }
 
-    /// Writes what a call returned.
+    /// Writes the result of a call.
     pub(crate) fn show<T: Debug + Drop>(&mut self, returned: T) -> io::Result<()> {
         writeln!(self.output, "{returned:?}")
     }

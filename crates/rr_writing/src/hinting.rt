@@ -1,4 +1,4 @@
-//! Hints that a client wants no more responses.
+//! Disconnect hints of pending responses.
 ghost use Rattle.std.specs.Prelude.{◌≡◌, Some};
 ghost use Rattle.rr_protocol.specs.Messages.{with_hint};
 ghost use Rattle.rr_protocol.specs.Queries.{kind_at};
@@ -14,7 +14,7 @@ use rr_slots::Body;
 use rr_store::{HandleEntry, Stage, Store};
 use rr_table::Place;
 
-/// Sets the hint of the pending response that stands in this place.
+/// Sets the hint of the pending response in this place.
 #[inline(always)]
 pub fn set_disconnect_hint_at<
     QB: Body,

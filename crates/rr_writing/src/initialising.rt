@@ -14,7 +14,7 @@ use rr_slots::Body;
 use rr_store::{HandleEntry, Stage, Store};
 use rr_table::Place;
 
-/// Makes the message that is being written in this place, and complete, one that can be sent.
+/// Makes the message on loan in this place, whose body is complete, ready to send.
 #[inline(always)]
 pub fn assume_init_at<
     QB: Body,
@@ -25,7 +25,8 @@ pub fn assume_init_at<
 >(store: &mut Store<QB, QH, PB, PH, K>, number: u64, place: Place)
     requires core { IsCore (opened store.old) }
     requires at { IsAt store.old.table number place }
-    requires uninit { (kind_at (state_of (opened store.old)) number ≡ Some Kind.RequestMutUninit) ⊎ (kind_at (state_of (opened store.old)) number ≡ Some Kind.ResponseMutUninit) }
+    requires uninit { (kind_at (state_of (opened store.old)) number ≡ Some Kind.RequestMutUninit)
+        ⊎ (kind_at (state_of (opened store.old)) number ≡ Some Kind.ResponseMutUninit) }
     requires complete { IsSomeAnd (handle_at (state_of (opened store.old)) number) (λ handle. is_ready handle ≡ true) }
     ensures core { IsCore (opened store.new) }
     ensures view { state_of (opened store.new) ≡ with_changed (state_of (opened store.old)) number after_init }

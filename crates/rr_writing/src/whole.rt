@@ -14,8 +14,8 @@ use rr_slots::{Body, FillBody, KeepBody, WriteBody};
 use rr_store::{HandleEntry, Stage, Store};
 use rr_table::Place;
 
-/// Makes an element the only one of the request that is being written in this place, of a body that asks for one, which can be sent
-/// then. One that was written before is dropped.
+/// Writes the only element of the request on loan in this place, whose body was loaned for one, and makes it ready to
+/// send. An old element is dropped.
 #[inline(always)]
 pub fn write_request_at<
     QB: WriteBody,
@@ -29,10 +29,12 @@ pub fn write_request_at<
     requires kind { kind_at (state_of (opened store.old)) number ≡ Some Kind.RequestMutUninit }
     requires one { (body : QB) → QB.asked_len body ≡ 1 }
     ensures core { IsCore (opened store.new) }
-    ensures view { state_of (opened store.new) ≡ with_changed (with_changed (state_of (opened store.old)) number (with_request_content (with_elements (element ∷ [])))) number after_init }
+    ensures view { state_of (opened store.new) ≡ with_changed
+        (with_changed (state_of (opened store.old)) number (with_request_content (with_elements (element ∷ []))))
+        number after_init }
 {
     let entry = store.table.at(number, place);
-    // What it returns isn't read: its clause says that one element is asked for here.
+    // Only its clause is used: the body was loaned for one element.
     let asked = store.clients.body(entry.sender, entry.slot);
     let _ = asked;
     let ready = HandleEntry {
@@ -43,8 +45,8 @@ pub fn write_request_at<
     store.clients.write(entry.sender, entry.slot, element);
 }
 
-/// Makes an element the only one of the response that is being written in this place, of a body that asks for one, which can be sent
-/// then. One that was written before is dropped.
+/// Writes the only element of the response on loan in this place, whose body was loaned for one, and makes it ready
+/// to send. An old element is dropped.
 #[inline(always)]
 pub fn write_response_at<
     QB: Body,
@@ -58,10 +60,12 @@ pub fn write_response_at<
     requires kind { kind_at (state_of (opened store.old)) number ≡ Some Kind.ResponseMutUninit }
     requires one { (body : PB) → PB.asked_len body ≡ 1 }
     ensures core { IsCore (opened store.new) }
-    ensures view { state_of (opened store.new) ≡ with_changed (with_changed (state_of (opened store.old)) number (with_response_content (with_elements (element ∷ [])))) number after_init }
+    ensures view { state_of (opened store.new) ≡ with_changed
+        (with_changed (state_of (opened store.old)) number (with_response_content (with_elements (element ∷ []))))
+        number after_init }
 {
     let entry = store.table.at(number, place);
-    // What it returns isn't read: its clause says that one element is asked for here.
+    // Only its clause is used: the body was loaned for one element.
     let asked = store.servers.body(entry.sender, entry.slot);
     let _ = asked;
     let ready = HandleEntry {
@@ -72,8 +76,8 @@ pub fn write_response_at<
     store.servers.write(entry.sender, entry.slot, element);
 }
 
-/// Makes an element each of those that are asked for of the request that is being written in this place, which can be sent then. Those
-/// that were written before are dropped.
+/// Fills the payload of the request on loan in this place with one element, and makes it ready to send. Old elements
+/// are dropped.
 #[inline(always)]
 pub fn fill_request_at<
     QB: FillBody,
@@ -86,7 +90,8 @@ pub fn fill_request_at<
     requires at { IsAt store.old.table number place }
     requires kind { kind_at (state_of (opened store.old)) number ≡ Some Kind.RequestMutUninit }
     ensures core { IsCore (opened store.new) }
-    ensures view { state_of (opened store.new) ≡ with_changed (with_changed (state_of (opened store.old)) number (with_request_content (filled element))) number after_init }
+    ensures view { state_of (opened store.new) ≡ with_changed
+        (with_changed (state_of (opened store.old)) number (with_request_content (filled element))) number after_init }
 {
     let entry = store.table.at(number, place);
     let ready = HandleEntry {
@@ -97,8 +102,8 @@ pub fn fill_request_at<
     store.clients.fill(entry.sender, entry.slot, element);
 }
 
-/// Makes an element each of those that are asked for of the response that is being written in this place, which can be sent then. Those
-/// that were written before are dropped.
+/// Fills the payload of the response on loan in this place with one element, and makes it ready to send. Old elements
+/// are dropped.
 #[inline(always)]
 pub fn fill_response_at<
     QB: Body,
@@ -111,7 +116,8 @@ pub fn fill_response_at<
     requires at { IsAt store.old.table number place }
     requires kind { kind_at (state_of (opened store.old)) number ≡ Some Kind.ResponseMutUninit }
     ensures core { IsCore (opened store.new) }
-    ensures view { state_of (opened store.new) ≡ with_changed (with_changed (state_of (opened store.old)) number (with_response_content (filled element))) number after_init }
+    ensures view { state_of (opened store.new) ≡ with_changed
+        (with_changed (state_of (opened store.old)) number (with_response_content (filled element))) number after_init }
 {
     let entry = store.table.at(number, place);
     let ready = HandleEntry {
@@ -122,8 +128,8 @@ pub fn fill_response_at<
     store.servers.fill(entry.sender, entry.slot, element);
 }
 
-/// Makes copies of these the elements of the request that is being written in this place, which asks for as many, and can be sent then.
-/// Those that were written before are dropped.
+/// Copies these elements, which must be as many as were loaned, into the request on loan in this place, and makes it
+/// ready to send. Old elements are dropped.
 #[inline(always)]
 pub fn copy_request_at<
     QB: FillBody,
@@ -135,9 +141,12 @@ pub fn copy_request_at<
     requires core { IsCore (opened store.old) }
     requires at { IsAt store.old.table number place }
     requires kind { kind_at (state_of (opened store.old)) number ≡ Some Kind.RequestMutUninit }
-    requires len { IsSomeAnd (option_and_then request_in (handle_at (state_of (opened store.old)) number)) (λ m. m.content.asked_len ≡ length elements.now) }
+    requires len { IsSomeAnd (option_and_then request_in (handle_at (state_of (opened store.old)) number))
+        (λ m. m.content.asked_len ≡ length elements.now) }
     ensures core { IsCore (opened store.new) }
-    ensures view { state_of (opened store.new) ≡ with_changed (with_changed (state_of (opened store.old)) number (with_request_content (with_elements elements.now))) number after_init }
+    ensures view { state_of (opened store.new) ≡ with_changed
+        (with_changed (state_of (opened store.old)) number (with_request_content (with_elements elements.now))) number
+        after_init }
 {
     let entry = store.table.at(number, place);
     let ready = HandleEntry {
@@ -148,8 +157,8 @@ pub fn copy_request_at<
     store.clients.copy(entry.sender, entry.slot, elements);
 }
 
-/// Makes copies of these the elements of the response that is being written in this place, which asks for as many, and can be sent then.
-/// Those that were written before are dropped.
+/// Copies these elements, which must be as many as were loaned, into the response on loan in this place, and makes it
+/// ready to send. Old elements are dropped.
 #[inline(always)]
 pub fn copy_response_at<
     QB: Body,
@@ -161,9 +170,12 @@ pub fn copy_response_at<
     requires core { IsCore (opened store.old) }
     requires at { IsAt store.old.table number place }
     requires kind { kind_at (state_of (opened store.old)) number ≡ Some Kind.ResponseMutUninit }
-    requires len { IsSomeAnd (option_and_then response_in (handle_at (state_of (opened store.old)) number)) (λ m. m.content.asked_len ≡ length elements.now) }
+    requires len { IsSomeAnd (option_and_then response_in (handle_at (state_of (opened store.old)) number))
+        (λ m. m.content.asked_len ≡ length elements.now) }
     ensures core { IsCore (opened store.new) }
-    ensures view { state_of (opened store.new) ≡ with_changed (with_changed (state_of (opened store.old)) number (with_response_content (with_elements elements.now))) number after_init }
+    ensures view { state_of (opened store.new) ≡ with_changed
+        (with_changed (state_of (opened store.old)) number (with_response_content (with_elements elements.now)))
+        number after_init }
 {
     let entry = store.table.at(number, place);
     let ready = HandleEntry {
@@ -174,8 +186,8 @@ pub fn copy_response_at<
     store.servers.copy(entry.sender, entry.slot, elements);
 }
 
-/// Makes the request that is being written in this place complete, by whatever elements: by those that its memory keeps, and
-/// one that can be sent.
+/// Makes the request on loan in this place complete with unspecified elements, those that its slot's memory holds,
+/// and ready to send.
 #[inline(always)]
 pub fn complete_request_at<
     QB: KeepBody,
@@ -188,7 +200,12 @@ pub fn complete_request_at<
     requires at { IsAt store.old.table number place }
     requires kind { kind_at (state_of (opened store.old)) number ≡ Some Kind.RequestMutUninit }
     ensures core { IsCore (opened store.new) }
-    ensures view { (elements : List QB.Item) × IsSomeAnd (option_and_then request_in (handle_at (state_of (opened store.old)) number)) (λ m. m.content.asked_len ≡ length elements) × (state_of (opened store.new) ≡ with_changed (with_changed (state_of (opened store.old)) number (with_request_content (with_elements elements))) number after_init) }
+    ensures view { (elements : List QB.Item) × IsSomeAnd
+        (option_and_then request_in (handle_at (state_of (opened store.old)) number))
+        (λ m. m.content.asked_len ≡ length elements)
+        × (state_of (opened store.new) ≡ with_changed
+        (with_changed (state_of (opened store.old)) number (with_request_content (with_elements elements))) number
+        after_init) }
 {
     let entry = store.table.at(number, place);
     let ready = HandleEntry {
@@ -199,8 +216,8 @@ pub fn complete_request_at<
     store.clients.complete(entry.sender, entry.slot);
 }
 
-/// Makes the response that is being written in this place complete, by whatever elements: by those that its memory keeps, and
-/// one that can be sent.
+/// Makes the response on loan in this place complete with unspecified elements, those that its slot's memory holds,
+/// and ready to send.
 #[inline(always)]
 pub fn complete_response_at<
     QB: Body,
@@ -213,7 +230,12 @@ pub fn complete_response_at<
     requires at { IsAt store.old.table number place }
     requires kind { kind_at (state_of (opened store.old)) number ≡ Some Kind.ResponseMutUninit }
     ensures core { IsCore (opened store.new) }
-    ensures view { (elements : List PB.Item) × IsSomeAnd (option_and_then response_in (handle_at (state_of (opened store.old)) number)) (λ m. m.content.asked_len ≡ length elements) × (state_of (opened store.new) ≡ with_changed (with_changed (state_of (opened store.old)) number (with_response_content (with_elements elements))) number after_init) }
+    ensures view { (elements : List PB.Item) × IsSomeAnd
+        (option_and_then response_in (handle_at (state_of (opened store.old)) number))
+        (λ m. m.content.asked_len ≡ length elements)
+        × (state_of (opened store.new) ≡ with_changed
+        (with_changed (state_of (opened store.old)) number (with_response_content (with_elements elements))) number
+        after_init) }
 {
     let entry = store.table.at(number, place);
     let ready = HandleEntry {

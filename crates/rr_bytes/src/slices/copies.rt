@@ -11,24 +11,24 @@ use rr_checked::Refusal;
 use rr_hub::{BackpressureFn, Core, HandleId, Kind, LoanError};
 use rr_slots::PlainBody;
 
-/// What one call loaned, wrote and sent. Not in iceoryx2.
+/// The message that one call loaned, wrote and sent. Not in iceoryx2.
 #[derive(Clone, Copy, Debug, PartialEq, Eq)]
 pub enum SentCopy {
-    /// A request, which is a pending response by this id, and was put in so many queues.
+    /// A request, now a pending response with this id, and the number of queues that took it.
     Request(Id, usize),
-    /// A response, which had this id and is gone.
+    /// A response, whose handle, with this id, was released.
     Response(Id),
 }
 
 impl<T: Copy + Default, H: Copy + Default, K: BackpressureFn> Slices<T, H, K> {
-    /// Loans a message of as many elements as these, writes copies of them and sends it: a request of a client, or a response of an
-    /// active request. After iceoryx2's `send_copy` of both, which take one value.
+    /// Loans a message of this length, copies the elements into it and sends it: a request of a client, or a response
+    /// of an active request. After iceoryx2's `send_copy` of both, which take one value.
     ///
     /// # Errors
     ///
     /// - `Unknown` and `WrongKind`.
     /// - `NumbersExhausted` and `Loan` as `loan`.
-    /// - `Request` and `Send` as `send`; the message is gone then.
+    /// - `Request` and `Send` as `send`; the message is released then.
     pub fn send_copy(&mut self, id: &Id, elements: &[T]) -> Result<SentCopy, Refusal>
         ensures { SendsCopyOf K.action H.is_default self.old id.now.number elements.now result self.new }
     {
@@ -42,7 +42,7 @@ impl<T: Copy + Default, H: Copy + Default, K: BackpressureFn> Slices<T, H, K> {
     }
 }
 
-/// Sends a request that has these elements.
+/// Sends a request with these elements.
 fn send_request_copy<T: Copy + Default, H: Copy + Default, K: BackpressureFn>(
     core: &mut Core<PlainBody<T>, H, PlainBody<T>, H, K>,
     client: u64,
@@ -63,7 +63,7 @@ fn send_request_copy<T: Copy + Default, H: Copy + Default, K: BackpressureFn>(
     }
 }
 
-/// Sends a response that has these elements.
+/// Sends a response with these elements.
 fn send_response_copy<T: Copy + Default, H: Copy + Default, K: BackpressureFn>(
     core: &mut Core<PlainBody<T>, H, PlainBody<T>, H, K>,
     active: &HandleId,
@@ -84,7 +84,7 @@ fn send_response_copy<T: Copy + Default, H: Copy + Default, K: BackpressureFn>(
     }
 }
 
-/// Loans a request that has these elements, and can be sent.
+/// Loans a request with these elements, ready to send.
 fn copied_request<T: Copy + Default, H: Copy + Default, K: BackpressureFn>(
     core: &mut Core<PlainBody<T>, H, PlainBody<T>, H, K>,
     client: u64,
@@ -100,7 +100,7 @@ fn copied_request<T: Copy + Default, H: Copy + Default, K: BackpressureFn>(
     Ok(request)
 }
 
-/// Loans a response that has these elements, and can be sent.
+/// Loans a response with these elements, ready to send.
 fn copied_response<T: Copy + Default, H: Copy + Default, K: BackpressureFn>(
     core: &mut Core<PlainBody<T>, H, PlainBody<T>, H, K>,
     active: &HandleId,

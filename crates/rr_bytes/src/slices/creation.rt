@@ -1,8 +1,8 @@
 //! Creating and releasing.
 ghost use Rattle.rr_slots.specs.declared.family.Family.TheVariants.{Sliced};
-ghost use Rattle.rr_commands.specs.declared.command.Command.{Command};
-ghost use Rattle.rr_commands.specs.declared.reply.Reply.{Reply};
-ghost use Rattle.rr_commands.specs.Step.{Step};
+ghost use Rattle.rr_protocol.specs.declared.command.Command.{Command};
+ghost use Rattle.rr_protocol.specs.declared.reply.Reply.{Reply};
+ghost use Rattle.rr_protocol.specs.Step.{Step};
 ghost use Rattle.rr_checked.specs.Answers.{replied};
 
 use crate::id::Id;
@@ -17,7 +17,8 @@ impl<T: Copy + Default, H: Copy + Default, K: BackpressureFn> Slices<T, H, K> {
     ///
     /// `Client` as the call of the factory.
     pub fn create_client(&mut self, settings: ClientSettings<K>) -> Result<Id, Refusal>
-        ensures { Step K.action T.is_default H.is_default Sliced self.old (Command.CreateClient settings) (replied (λ id. Reply.Created id.number) result) self.new }
+        ensures { Step K.action T.is_default H.is_default Sliced self.old (Command.CreateClient settings)
+            (replied (λ id. Reply.Created id.number) result) self.new }
     {
         let number = rr_checked::create_client(&mut self.core, settings)?;
         Ok(Id::of_port(number))
@@ -29,7 +30,8 @@ impl<T: Copy + Default, H: Copy + Default, K: BackpressureFn> Slices<T, H, K> {
     ///
     /// `Server` as the call of the factory.
     pub fn create_server(&mut self, settings: ServerSettings<K>) -> Result<Id, Refusal>
-        ensures { Step K.action T.is_default H.is_default Sliced self.old (Command.CreateServer settings) (replied (λ id. Reply.Created id.number) result) self.new }
+        ensures { Step K.action T.is_default H.is_default Sliced self.old (Command.CreateServer settings)
+            (replied (λ id. Reply.Created id.number) result) self.new }
     {
         let number = rr_checked::create_server(&mut self.core, settings)?;
         Ok(Id::of_port(number))
@@ -41,19 +43,21 @@ impl<T: Copy + Default, H: Copy + Default, K: BackpressureFn> Slices<T, H, K> {
     ///
     /// `Unknown`.
     pub fn release(&mut self, id: &Id) -> Result<(), Refusal>
-        ensures { Step K.action T.is_default H.is_default Sliced self.old (Command.Release id.now.number) (replied (λ done. Reply.Done) result) self.new }
+        ensures { Step K.action T.is_default H.is_default Sliced self.old (Command.Release id.now.number)
+            (replied (λ done. Reply.Done) result) self.new }
     {
         rr_checked::release(&mut self.core, &id.handle())
     }
 
-    /// Changes nothing: a port is connected with all ports of the other side from the creation of the later one on. After
+    /// Changes nothing: a port is connected with all ports of the other side as soon as both are created. After
     /// iceoryx2's `UpdateConnections::update_connections`.
     ///
     /// # Errors
     ///
     /// `Unknown` and `WrongKind`.
     pub fn update_connections(&self, id: &Id) -> Result<(), Refusal>
-        ensures { Step K.action T.is_default H.is_default Sliced self.now (Command.UpdateConnections id.now.number) (replied (λ done. Reply.Done) result) self.now }
+        ensures { Step K.action T.is_default H.is_default Sliced self.now (Command.UpdateConnections id.now.number)
+            (replied (λ done. Reply.Done) result) self.now }
     {
         rr_checked::update_connections(&self.core, &id.handle())
     }

@@ -1,8 +1,8 @@
 //! Loans, sends and receives.
 ghost use Rattle.rr_slots.specs.declared.family.Family.TheVariants.{Sliced};
-ghost use Rattle.rr_commands.specs.declared.command.Command.{Command};
-ghost use Rattle.rr_commands.specs.declared.reply.Reply.{Reply};
-ghost use Rattle.rr_commands.specs.Step.{Step};
+ghost use Rattle.rr_protocol.specs.declared.command.Command.{Command};
+ghost use Rattle.rr_protocol.specs.declared.reply.Reply.{Reply};
+ghost use Rattle.rr_protocol.specs.Step.{Step};
 ghost use Rattle.rr_checked.specs.Answers.{replied, sent};
 ghost use Rattle.rr_bytes.specs.Receives.{IsNamed, Receives};
 
@@ -12,7 +12,7 @@ use rr_checked::{Received, Refusal, Sent};
 use rr_hub::BackpressureFn;
 
 impl<T: Copy + Default, H: Copy + Default, K: BackpressureFn> Slices<T, H, K> {
-    /// Loans a message of so many elements: a request of a client, or a response of an active request. After iceoryx2's
+    /// Loans a message of `len` elements: a request of a client, or a response of an active request. After iceoryx2's
     /// `loan_slice_uninit` of both.
     ///
     /// # Errors
@@ -21,26 +21,29 @@ impl<T: Copy + Default, H: Copy + Default, K: BackpressureFn> Slices<T, H, K> {
     /// - `NumbersExhausted` if no number is left for the loan.
     /// - `Loan` as the call of the port.
     pub fn loan(&mut self, id: &Id, len: usize) -> Result<Id, Refusal>
-        ensures { Step K.action T.is_default H.is_default Sliced self.old (Command.Loan id.now.number len) (replied (λ id. Reply.Loaned id.number) result) self.new }
+        ensures { Step K.action T.is_default H.is_default Sliced self.old (Command.Loan id.now.number len)
+            (replied (λ id. Reply.Loaned id.number) result) self.new }
     {
         let loaned = rr_checked::loan(&mut self.core, &id.handle(), len)?;
         Ok(Id::of(&loaned))
     }
 
-    /// Sends a request, which is a pending response under its number then, or a response, which is gone then. After iceoryx2's
-    /// `send` of both.
+    /// Sends a request, which becomes a pending response under its number, or a response, whose handle is released.
+    /// After iceoryx2's `send` of both.
     ///
     /// # Errors
     ///
     /// - `Unknown` and `WrongKind`.
     /// - `Request` and `Send` as the call of the message, which is released then.
     pub fn send(&mut self, id: &Id) -> Result<Sent, Refusal>
-        ensures { Step K.action T.is_default H.is_default Sliced self.old (Command.Send id.now.number) (replied (sent id.now.number) result) self.new }
+        ensures { Step K.action T.is_default H.is_default Sliced self.old (Command.Send id.now.number)
+            (replied (sent id.now.number) result) self.new }
     {
         rr_checked::send(&mut self.core, &id.handle())
     }
 
-    /// Receives a request of a server, or a response of a pending response, if one is queued. After iceoryx2's `receive` of both.
+    /// Receives a request of a server, or a response of a pending response, if one is queued. After iceoryx2's
+    /// `receive` of both.
     ///
     /// # Errors
     ///
@@ -54,7 +57,7 @@ impl<T: Copy + Default, H: Copy + Default, K: BackpressureFn> Slices<T, H, K> {
     }
 }
 
-/// Returns what a caller keeps of what was received.
+/// Returns the id of a received message.
 fn named(received: Result<Option<Received>, Refusal>) -> Result<Option<Id>, Refusal>
     ensures { IsNamed received result }
 {

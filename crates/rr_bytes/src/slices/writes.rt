@@ -1,9 +1,9 @@
 //! Writing messages before they are sent.
 ghost use Rattle.std.specs.Prelude.{◌≡◌, ◌⊎◌, IfOk, IsSomeAnd, Some};
 ghost use Rattle.rr_slots.specs.declared.family.Family.TheVariants.{Sliced};
-ghost use Rattle.rr_commands.specs.declared.command.Command.{Command};
-ghost use Rattle.rr_commands.specs.declared.reply.Reply.{Reply};
-ghost use Rattle.rr_commands.specs.Step.{Step};
+ghost use Rattle.rr_protocol.specs.declared.command.Command.{Command};
+ghost use Rattle.rr_protocol.specs.declared.reply.Reply.{Reply};
+ghost use Rattle.rr_protocol.specs.Step.{Step};
 ghost use Rattle.rr_protocol.specs.declared.kind.Kind.TheVariants as kind;
 ghost use Rattle.rr_protocol.specs.Queries.{kind_at};
 ghost use Rattle.rr_protocol.specs.State.{handle_at};
@@ -25,18 +25,21 @@ impl<T: Copy + Default, H: Copy + Default, K: BackpressureFn> Slices<T, H, K> {
     ///
     /// `Unknown` and `WrongKind`.
     pub fn push(&mut self, id: &Id, element: T) -> Result<bool, Refusal>
-        ensures { Step K.action T.is_default H.is_default Sliced self.old (Command.Push id.now.number element) (replied Reply.Flag result) self.new }
+        ensures { Step K.action T.is_default H.is_default Sliced self.old (Command.Push id.now.number element)
+            (replied Reply.Flag result) self.new }
     {
         rr_checked::push(&mut self.core, &id.handle(), element)
     }
 
-    /// Replaces an element of a message that was not sent. Returns whether there is one. After iceoryx2's `payload_mut`.
+    /// Replaces an element of a message that was not sent. Returns whether there is one. After iceoryx2's
+    /// `payload_mut`.
     ///
     /// # Errors
     ///
     /// `Unknown` and `WrongKind`.
     pub fn set(&mut self, id: &Id, index: usize, element: T) -> Result<bool, Refusal>
-        ensures { Step K.action T.is_default H.is_default Sliced self.old (Command.Set id.now.number index element) (replied Reply.Flag result) self.new }
+        ensures { Step K.action T.is_default H.is_default Sliced self.old (Command.Set id.now.number index element)
+            (replied Reply.Flag result) self.new }
     {
         rr_checked::set(&mut self.core, &id.handle(), index, element)
     }
@@ -47,18 +50,20 @@ impl<T: Copy + Default, H: Copy + Default, K: BackpressureFn> Slices<T, H, K> {
     ///
     /// `Unknown` and `WrongKind`.
     pub fn set_user_header(&mut self, id: &Id, header: H) -> Result<(), Refusal>
-        ensures { Step K.action T.is_default H.is_default Sliced self.old (Command.SetUserHeader id.now.number header) (replied (λ done. Reply.Done) result) self.new }
+        ensures { Step K.action T.is_default H.is_default Sliced self.old (Command.SetUserHeader id.now.number header)
+            (replied (λ done. Reply.Done) result) self.new }
     {
         rr_checked::set_user_header(&mut self.core, &id.handle(), header)
     }
 
-    /// Makes a message that is being written, and complete, one that can be sent. After iceoryx2's `assume_init`.
+    /// Makes a message with a complete payload ready to send. After iceoryx2's `assume_init`.
     ///
     /// # Errors
     ///
-    /// `Unknown`, `WrongKind`, and `Incomplete` if less is written than was asked for.
+    /// `Unknown`, `WrongKind`, and `Incomplete` if fewer elements were written than were loaned.
     pub fn assume_init(&mut self, id: &Id) -> Result<(), Refusal>
-        ensures { Step K.action T.is_default H.is_default Sliced self.old (Command.AssumeInit id.now.number) (replied (λ done. Reply.Done) result) self.new }
+        ensures { Step K.action T.is_default H.is_default Sliced self.old (Command.AssumeInit id.now.number)
+            (replied (λ done. Reply.Done) result) self.new }
     {
         rr_checked::assume_init(&mut self.core, &id.handle())
     }
@@ -69,7 +74,8 @@ impl<T: Copy + Default, H: Copy + Default, K: BackpressureFn> Slices<T, H, K> {
     ///
     /// `Unknown` and `WrongKind`.
     pub fn set_hint(&mut self, id: &Id) -> Result<(), Refusal>
-        ensures { Step K.action T.is_default H.is_default Sliced self.old (Command.SetHint id.now.number) (replied (λ done. Reply.Done) result) self.new }
+        ensures { Step K.action T.is_default H.is_default Sliced self.old (Command.SetHint id.now.number)
+            (replied (λ done. Reply.Done) result) self.new }
     {
         rr_checked::set_hint(&mut self.core, &id.handle())
     }
@@ -81,16 +87,16 @@ pub enum WriteRefusal {
     /// The number names neither a port nor a handle.
     #[error("WriteRefusal::Unknown")]
     Unknown,
-    /// What the number names is no message that is being written.
+    /// The number names no message that is being written.
     #[error("WriteRefusal::WrongKind")]
     WrongKind,
-    /// The message asks for another number of elements.
+    /// The message was loaned for another number of elements.
     #[error("WriteRefusal::WrongLength")]
     WrongLength,
 }
 
 impl WriteRefusal {
-    /// Returns the refusal's code, which is not 0. What a `Refusal` says too has its code.
+    /// Returns the refusal's code, which is not 0. A refusal that is also in `Refusal` has the same code.
     pub fn code(self) -> u32
         ensures { result ≡ write_code self }
     {
@@ -103,12 +109,12 @@ impl WriteRefusal {
 }
 
 impl<T: Copy + Default, H: Copy + Default, K: BackpressureFn> Slices<T, H, K> {
-    /// Writes copies of these elements, and makes the message one that can be sent. What was written before is dropped. After iceoryx2's
-    /// `write_from_slice`.
+    /// Copies these elements into the payload, and makes the message ready to send. Old elements are dropped. After
+    /// iceoryx2's `write_from_slice`.
     ///
     /// # Errors
     ///
-    /// `Unknown`, `WrongKind`, and `WrongLength` if the loan asked for another number of elements.
+    /// `Unknown`, `WrongKind`, and `WrongLength` if the loan is of another length.
     pub fn write(&mut self, id: &Id, elements: &[T]) -> Result<(), WriteRefusal>
         ensures { WritesAll self.old id.now.number elements.now result self.new }
     {
@@ -123,9 +129,9 @@ impl<T: Copy + Default, H: Copy + Default, K: BackpressureFn> Slices<T, H, K> {
 }
 
 impl<T: Copy + Default, H: Copy + Default, K: BackpressureFn> Slices<T, H, K> {
-    /// Makes this element each of those that a message asks for, and the message one that can be sent. What was written before is
-    /// dropped. After iceoryx2's `write_from_fn` with a function that always returns this element; a loan that is filled with a default
-    /// element is its `loan_slice`.
+    /// Fills the payload with copies of one element, and makes the message ready to send. Old elements are dropped.
+    /// After iceoryx2's `write_from_fn` with a function that always returns this element; a loan that is filled with
+    /// a default element is its `loan_slice`.
     ///
     /// # Errors
     ///
@@ -145,16 +151,17 @@ impl<T: Copy + Default, H: Copy + Default, K: BackpressureFn> Slices<T, H, K> {
 }
 
 impl<T: Copy + Default, H: Copy + Default, K: BackpressureFn> Slices<T, H, K> {
-    /// Makes a message that is being written one that can be sent. It has as many elements as it asks for, whatever stands in its slot's
-    /// memory: what was written of it before may be lost. A message that can be sent stays as it is. After iceoryx2's `payload_mut`,
-    /// through which a message is written that was loaned.
+    /// Makes a message that is being written ready to send. Its elements are those that its slot's memory holds, as
+    /// many as were loaned; elements written before may be lost. A message that is ready to send stays as it is.
+    /// After iceoryx2's `payload_mut`, through which a loaned message is written.
     ///
     /// # Errors
     ///
     /// `Unknown` and `WrongKind`.
     pub fn complete(&mut self, id: &Id) -> Result<(), Refusal>
         ensures completes { Completes self.old id.now.number result self.new }
-        ensures kind { IfOk result (λ done. (kind_at self.new id.now.number ≡ Some kind.RequestMut) ⊎ (kind_at self.new id.now.number ≡ Some kind.ResponseMut)) }
+        ensures kind { IfOk result (λ done. (kind_at self.new id.now.number ≡ Some kind.RequestMut)
+            ⊎ (kind_at self.new id.now.number ≡ Some kind.ResponseMut)) }
     {
         let handle = id.handle();
         match self.core.kind(&handle) {
@@ -168,25 +175,27 @@ impl<T: Copy + Default, H: Copy + Default, K: BackpressureFn> Slices<T, H, K> {
     }
 }
 
-/// Makes a request that is being written complete, and one that can be sent.
+/// Makes a request on loan complete, and ready to send.
 fn complete_request<T: Copy + Default, H: Copy + Default, K: BackpressureFn>(
     core: &mut Core<PlainBody<T>, H, PlainBody<T>, H, K>,
     id: &HandleId,
 )
     requires { kind_at core.old id.now ≡ Some kind.RequestMutUninit }
-    ensures completes { IsSomeAnd (handle_at core.old id.now) (λ handle. CompletesHandle core.old id.now handle core.new) }
+    ensures completes { IsSomeAnd (handle_at core.old id.now)
+        (λ handle. CompletesHandle core.old id.now handle core.new) }
     ensures kind { kind_at core.new id.now ≡ Some kind.RequestMut }
 {
     core.complete_request(id);
 }
 
-/// Makes a response that is being written complete, and one that can be sent.
+/// Makes a response on loan complete, and ready to send.
 fn complete_response<T: Copy + Default, H: Copy + Default, K: BackpressureFn>(
     core: &mut Core<PlainBody<T>, H, PlainBody<T>, H, K>,
     id: &HandleId,
 )
     requires { kind_at core.old id.now ≡ Some kind.ResponseMutUninit }
-    ensures completes { IsSomeAnd (handle_at core.old id.now) (λ handle. CompletesHandle core.old id.now handle core.new) }
+    ensures completes { IsSomeAnd (handle_at core.old id.now)
+        (λ handle. CompletesHandle core.old id.now handle core.new) }
     ensures kind { kind_at core.new id.now ≡ Some kind.ResponseMut }
 {
     core.complete_response(id);

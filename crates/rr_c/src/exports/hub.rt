@@ -3,7 +3,7 @@ ghost use Rattle.std.specs.Prelude.{◌≡◌, max};
 ghost use Rattle.std.specs.Option.{option_map_or};
 ghost use Rattle.rr_protocol.specs.Limits.{worst_case_requests, worst_case_responses};
 ghost use Rattle.rr_protocol.specs.Queries.{kind_at};
-ghost use Rattle.rr_commands.specs.Refusals.{kind_index};
+ghost use Rattle.rr_protocol.specs.Refusals.{kind_index};
 ghost use Rattle.rr_c.specs.Answers.{CreatesHeld, WritesPool};
 ghost use Rattle.rr_c.specs.Settings.{limits_in};
 
@@ -46,7 +46,8 @@ pub extern "C" fn rr_hub_drop(alloc: Global, held: Held) {
 /// Writes the slots of a client's unreduced pool.
 #[unsafe(no_mangle)]
 pub extern "C" fn rr_worst_case_requests(limits: &HubLimits, slots: &mut usize) -> u32
-    ensures { WritesPool (limits_in limits.now) (worst_case_requests (limits_in limits.now)) result slots.old slots.new }
+    ensures { WritesPool (limits_in limits.now) (worst_case_requests (limits_in limits.now)) result slots.old
+        slots.new }
 {
     let limits = settings::limits(limits);
     if limits.has_zero_limit() {
@@ -61,14 +62,15 @@ pub extern "C" fn rr_worst_case_requests(limits: &HubLimits, slots: &mut usize) 
     }
 }
 
-/// Writes the slots of a server's unreduced pool. No loaned response counts as one.
+/// Writes the slots of a server's unreduced pool. 0 loaned responses count as 1.
 #[unsafe(no_mangle)]
 pub extern "C" fn rr_worst_case_responses(
     limits: &HubLimits,
     max_loaned_responses_per_request: usize,
     slots: &mut usize,
 ) -> u32
-    ensures { WritesPool (limits_in limits.now) (worst_case_responses (limits_in limits.now) (max 1 max_loaned_responses_per_request)) result slots.old slots.new }
+    ensures { WritesPool (limits_in limits.now) (worst_case_responses (limits_in limits.now)
+        (max 1 max_loaned_responses_per_request)) result slots.old slots.new }
 {
     let limits = settings::limits(limits);
     if limits.has_zero_limit() {
@@ -83,7 +85,7 @@ pub extern "C" fn rr_worst_case_responses(
     }
 }
 
-/// Writes what an id names.
+/// Writes the kind of an id.
 #[unsafe(no_mangle)]
 pub extern "C" fn rr_kind(hub: &mut Held, id: &Id, kind: &mut u32) -> u32
     ensures code { result ≡ option_map_or (λ named. 0) (kind_at hub.old.hub.bytes id.now.number) 1 }

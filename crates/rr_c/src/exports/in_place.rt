@@ -1,6 +1,6 @@
-//! Messages that are written and read where they lie.
+//! Messages that are written and read in place.
 ghost use Rattle.std.specs.Prelude.{◌≡◌, ◌⊎◌, IsSomeAnd, Option, Result, length};
-ghost use Rattle.rr_commands.specs.Refusals.{content_in};
+ghost use Rattle.rr_protocol.specs.Refusals.{content_in};
 ghost use Rattle.rr_protocol.specs.State.{handle_at};
 ghost use Rattle.rr_bytes.specs.declared.id.Id.{Id as Named};
 ghost use Rattle.rr_checked.specs.declared.refusal.Refusal.{Refusal};
@@ -11,8 +11,8 @@ use crate::held::Held;
 use crate::opening::{hub_in, start_of};
 use rr_bytes::Id;
 
-/// Loans a message that can be sent, and writes where its bytes begin, which C writes in place: the clauses say of them that they are
-/// there, and nothing else.
+/// Loans a message that is ready to send, and writes the address of its bytes, which C writes in place: the clauses
+/// say that the bytes exist, and nothing about their values.
 #[unsafe(no_mangle)]
 pub extern "C" fn rr_loan_in_place(
     hub: &mut Held,
@@ -21,8 +21,10 @@ pub extern "C" fn rr_loan_in_place(
     message: &mut Id,
     at: &mut *mut u8,
 ) -> u32
-    ensures loans { Writes (λ answer. HubLoansInPlace hub.old.hub from.now.number len answer hub.new.hub) result message.old message.new }
-    ensures len { result ≡ 0 → IsSomeAnd (handle_at hub.new.hub.bytes message.new.number) (λ handle. length (content_in handle).elements ≡ len) }
+    ensures loans { Writes (λ answer. HubLoansInPlace hub.old.hub from.now.number len answer hub.new.hub) result
+        message.old message.new }
+    ensures len { result ≡ 0 → IsSomeAnd (handle_at hub.new.hub.bytes message.new.number)
+        (λ handle. length (content_in handle).elements ≡ len) }
 {
     match hub_in(hub).bytes.loan_in_place(from, len) {
         Ok(id) => match hub_in(hub).bytes.payload(&id) {
@@ -37,7 +39,7 @@ pub extern "C" fn rr_loan_in_place(
     }
 }
 
-/// Receives a request or a response, and writes where the bytes begin that are read.
+/// Receives a request or a response, and writes the address of its bytes.
 #[unsafe(no_mangle)]
 pub extern "C" fn rr_receive_in_place(
     hub: &mut Held,
@@ -46,8 +48,11 @@ pub extern "C" fn rr_receive_in_place(
     at: &mut *const u8,
     len: &mut usize,
 ) -> u32
-    ensures receives { (answer : Result (Option Named) Refusal) × HubReceives hub.old.hub from.now.number answer hub.new.hub × (result ≡ received_code answer) × (received.new ≡ was_received received.old answer) }
-    ensures len { result ≡ 0 → IsSomeAnd (handle_at hub.new.hub.bytes received.new.number) (λ handle. length (content_in handle).elements ≡ len.new) }
+    ensures receives { (answer : Result (Option Named) Refusal)
+        × HubReceives hub.old.hub from.now.number answer hub.new.hub × (result ≡ received_code answer)
+        × (received.new ≡ was_received received.old answer) }
+    ensures len { result ≡ 0 → IsSomeAnd (handle_at hub.new.hub.bytes received.new.number)
+        (λ handle. length (content_in handle).elements ≡ len.new) }
     ensures refused { (result ≡ 0) ⊎ (len.new ≡ len.old) }
 {
     match hub_in(hub).bytes.receive_in_place(from) {

@@ -1,6 +1,6 @@
 //! Messages: loans, sends and releases.
-ghost use Rattle.rr_commands.specs.declared.command.Command.{Command};
-ghost use Rattle.rr_commands.specs.declared.reply.Reply.{Reply};
+ghost use Rattle.rr_protocol.specs.declared.command.Command.{Command};
+ghost use Rattle.rr_protocol.specs.declared.reply.Reply.{Reply};
 ghost use Rattle.rr_checked.specs.Answers.{replied, sent};
 ghost use Rattle.std.specs.Prelude.{◌≡◌, Result};
 ghost use Rattle.rr_checked.specs.Codes.{code};
@@ -21,23 +21,26 @@ pub extern "C" fn rr_loan_slice_uninit(
     len: usize,
     message: &mut Id,
 ) -> u32
-    ensures { Writes (λ answer. HubStep hub.old.hub (Command.Loan from.now.number len) (replied (λ id. Reply.Loaned id.number) answer) hub.new.hub) result message.old message.new }
+    ensures { Writes (λ answer. HubStep hub.old.hub (Command.Loan from.now.number len)
+        (replied (λ id. Reply.Loaned id.number) answer) hub.new.hub) result message.old message.new }
 {
     write(hub_in(hub).bytes.loan(from, len), message)
 }
 
-/// Writes whether a send would be refused by no full queue.
+/// Writes whether no full queue would refuse a send.
 #[unsafe(no_mangle)]
 pub extern "C" fn rr_is_deliverable(hub: &mut Held, message: &Id, is_deliverable: &mut bool) -> u32
-    ensures { Writes (λ answer. HubStep hub.old.hub (Command.IsDeliverable message.now.number) (replied (Reply.Flag) answer) hub.new.hub) result is_deliverable.old is_deliverable.new }
+    ensures { Writes (λ answer. HubStep hub.old.hub (Command.IsDeliverable message.now.number)
+        (replied (Reply.Flag) answer) hub.new.hub) result is_deliverable.old is_deliverable.new }
 {
     write(hub_in(hub).bytes.is_deliverable(message), is_deliverable)
 }
 
-/// Writes the code with which a send of a message would be refused now, or 0.
+/// Writes the code with which a send would refuse a message now, or 0.
 #[unsafe(no_mangle)]
 pub extern "C" fn rr_send_refusal(hub: &mut Held, message: &Id, why: &mut u32) -> u32
-    ensures tells { Answers (λ answer. HubTellsSendRefusal hub.old.hub message.now.number answer × (why.new ≡ why_written why.old answer)) result }
+    ensures tells { Answers (λ answer. HubTellsSendRefusal hub.old.hub message.now.number answer
+        × (why.new ≡ why_written why.old answer)) result }
     ensures hub { hub.new.hub ≡ hub.old.hub }
 {
     match hub_in(hub).bytes.send_refusal(message) {
@@ -56,7 +59,8 @@ pub extern "C" fn rr_send_refusal(hub: &mut Held, message: &Id, why: &mut u32) -
 /// Releases a port or a handle.
 #[unsafe(no_mangle)]
 pub extern "C" fn rr_release(hub: &mut Held, id: &Id) -> u32
-    ensures { Answers {Value = Unit {0}} (λ answer. HubStep hub.old.hub (Command.Release id.now.number) (replied (λ done. Reply.Done) answer) hub.new.hub) result }
+    ensures { Answers {Value = Unit {0}} (λ answer.
+        HubStep hub.old.hub (Command.Release id.now.number) (replied (λ done. Reply.Done) answer) hub.new.hub) result }
 {
     done(hub_in(hub).bytes.release(id))
 }
@@ -64,7 +68,8 @@ pub extern "C" fn rr_release(hub: &mut Held, id: &Id) -> u32
 /// Sends a message.
 #[unsafe(no_mangle)]
 pub extern "C" fn rr_send(hub: &mut Held, message: &Id, servers: &mut usize) -> u32
-    ensures { Answers (λ answer. HubStep hub.old.hub (Command.Send message.now.number) (replied (sent message.now.number) answer) hub.new.hub × (servers.new ≡ taken servers.old answer)) result }
+    ensures { Answers (λ answer. HubStep hub.old.hub (Command.Send message.now.number)
+        (replied (sent message.now.number) answer) hub.new.hub × (servers.new ≡ taken servers.old answer)) result }
 {
     match hub_in(hub).bytes.send(message) {
         Ok(Sent::Request(took)) => {
@@ -88,7 +93,9 @@ pub extern "C" fn rr_send_copy(
     message: &mut Id,
     servers: &mut usize,
 ) -> u32
-    ensures { (answer : Result SentCopied Refusal) × HubSendsCopy hub.old.hub from.now.number payload.now answer hub.new.hub × (result ≡ answer_code code answer) × (message.new ≡ copy_named message.old answer) × (servers.new ≡ copy_taken servers.old answer) }
+    ensures { (answer : Result SentCopied Refusal)
+        × HubSendsCopy hub.old.hub from.now.number payload.now answer hub.new.hub × (result ≡ answer_code code answer)
+        × (message.new ≡ copy_named message.old answer) × (servers.new ≡ copy_taken servers.old answer) }
 {
     match hub_in(hub).bytes.send_copy(from, payload) {
         Ok(SentCopy::Request(id, took)) => {

@@ -12,7 +12,8 @@ use rr_bytes::Id;
 /// Receives a request or a response.
 #[unsafe(no_mangle)]
 pub extern "C" fn rr_receive(hub: &mut Held, from: &Id, received: &mut Id) -> u32
-    ensures { (answer : Result (Option Named) Refusal) × HubReceives hub.old.hub from.now.number answer hub.new.hub × (result ≡ received_code answer) × (received.new ≡ was_received received.old answer) }
+    ensures { (answer : Result (Option Named) Refusal) × HubReceives hub.old.hub from.now.number answer hub.new.hub
+        × (result ≡ received_code answer) × (received.new ≡ was_received received.old answer) }
 {
     match hub_in(hub).bytes.receive(from) {
         Ok(Some(id)) => {

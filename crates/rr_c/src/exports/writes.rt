@@ -1,8 +1,8 @@
 //! Writing messages before they are sent.
 ghost use Rattle.std.specs.Prelude.{◌≡◌, ◌⊎◌, IsSomeAnd, Result, length};
-ghost use Rattle.rr_commands.specs.declared.command.Command.{Command};
-ghost use Rattle.rr_commands.specs.declared.reply.Reply.{Reply};
-ghost use Rattle.rr_commands.specs.Refusals.{content_in};
+ghost use Rattle.rr_protocol.specs.declared.command.Command.{Command};
+ghost use Rattle.rr_protocol.specs.declared.reply.Reply.{Reply};
+ghost use Rattle.rr_protocol.specs.Refusals.{content_in};
 ghost use Rattle.rr_protocol.specs.State.{handle_at};
 ghost use Rattle.rr_checked.specs.Answers.{replied};
 ghost use Rattle.rr_bytes.specs.declared.slices.writes.WriteRefusal.{WriteRefusal as NotWritten};
@@ -27,13 +27,15 @@ pub extern "C" fn rr_fill(hub: &mut Held, message: &Id, byte: u8) -> u32
 /// Copies bytes to a message.
 #[unsafe(no_mangle)]
 pub extern "C" fn rr_write_from_slice(hub: &mut Held, message: &Id, payload: &[u8]) -> u32
-    ensures { (answer : Result (Unit {0}) NotWritten) × WritesAll hub.old.hub.bytes message.now.number payload.now answer hub.new.hub.bytes × (result ≡ answer_code write_code answer) }
+    ensures { (answer : Result (Unit {0}) NotWritten)
+        × WritesAll hub.old.hub.bytes message.now.number payload.now answer hub.new.hub.bytes
+        × (result ≡ answer_code write_code answer) }
 {
     wrote(hub_in(hub).bytes.write(message, payload))
 }
 
-/// Makes a message one that can be sent, and writes where its bytes begin, which C writes in place: the clauses say of them that they are
-/// there, and nothing else.
+/// Makes a message ready to send, and writes the address of its bytes, which C writes in place: the clauses say that
+/// the bytes exist, and nothing about their values.
 #[unsafe(no_mangle)]
 pub extern "C" fn rr_payload_mut(
     hub: &mut Held,
@@ -41,8 +43,10 @@ pub extern "C" fn rr_payload_mut(
     at: &mut *mut u8,
     len: &mut usize,
 ) -> u32
-    ensures completes { Answers (λ answer. Completes hub.old.hub.bytes message.now.number answer hub.new.hub.bytes) result }
-    ensures len { result ≡ 0 → IsSomeAnd (handle_at hub.new.hub.bytes message.now.number) (λ handle. length (content_in handle).elements ≡ len.new) }
+    ensures completes { Answers (λ answer. Completes hub.old.hub.bytes message.now.number answer hub.new.hub.bytes)
+        result }
+    ensures len { result ≡ 0 → IsSomeAnd (handle_at hub.new.hub.bytes message.now.number)
+        (λ handle. length (content_in handle).elements ≡ len.new) }
     ensures refused { (result ≡ 0) ⊎ (len.new ≡ len.old) }
 {
     match hub_in(hub).bytes.complete(message) {
@@ -61,15 +65,18 @@ pub extern "C" fn rr_payload_mut(
 /// Appends a byte.
 #[unsafe(no_mangle)]
 pub extern "C" fn rr_push(hub: &mut Held, message: &Id, byte: u8, had_room: &mut bool) -> u32
-    ensures { Writes (λ answer. HubStep hub.old.hub (Command.Push message.now.number byte) (replied (Reply.Flag) answer) hub.new.hub) result had_room.old had_room.new }
+    ensures { Writes (λ answer. HubStep hub.old.hub (Command.Push message.now.number byte)
+        (replied (Reply.Flag) answer) hub.new.hub) result had_room.old had_room.new }
 {
     write(hub_in(hub).bytes.push(message, byte), had_room)
 }
 
-/// Makes a complete message one that can be sent.
+/// Makes a complete message ready to send.
 #[unsafe(no_mangle)]
 pub extern "C" fn rr_assume_init(hub: &mut Held, message: &Id) -> u32
-    ensures { Answers {Value = Unit {0}} (λ answer. HubStep hub.old.hub (Command.AssumeInit message.now.number) (replied (λ done. Reply.Done) answer) hub.new.hub) result }
+    ensures { Answers {Value = Unit {0}} (λ answer.
+        HubStep hub.old.hub (Command.AssumeInit message.now.number) (replied (λ done. Reply.Done) answer) hub.new.hub)
+        result }
 {
     done(hub_in(hub).bytes.assume_init(message))
 }
@@ -83,7 +90,8 @@ pub extern "C" fn rr_set(
     byte: u8,
     was_there: &mut bool,
 ) -> u32
-    ensures { Writes (λ answer. HubStep hub.old.hub (Command.Set message.now.number index byte) (replied (Reply.Flag) answer) hub.new.hub) result was_there.old was_there.new }
+    ensures { Writes (λ answer. HubStep hub.old.hub (Command.Set message.now.number index byte)
+        (replied (Reply.Flag) answer) hub.new.hub) result was_there.old was_there.new }
 {
     write(hub_in(hub).bytes.set(message, index, byte), was_there)
 }
@@ -91,7 +99,9 @@ pub extern "C" fn rr_set(
 /// Replaces the user header.
 #[unsafe(no_mangle)]
 pub extern "C" fn rr_set_user_header(hub: &mut Held, message: &Id, header: &UserHeader) -> u32
-    ensures { Answers {Value = Unit {0}} (λ answer. HubStep hub.old.hub (Command.SetUserHeader message.now.number header.now.bytes) (replied (λ done. Reply.Done) answer) hub.new.hub) result }
+    ensures { Answers {Value = Unit {0}} (λ answer.
+        HubStep hub.old.hub (Command.SetUserHeader message.now.number header.now.bytes)
+        (replied (λ done. Reply.Done) answer) hub.new.hub) result }
 {
     done(hub_in(hub).bytes.set_user_header(message, header.bytes))
 }

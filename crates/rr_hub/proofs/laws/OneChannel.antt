@@ -2,7 +2,7 @@
 use Rattle.std.proofs.Common.{suc, ◌≡◌, ◌<◌, ℕ, cond, List, [], ◌∷◌, Bool, true, false, Option, Some, None, length, option_map, refl, sym, ap, ◌∙◌}
 use Rattle.std.specs.Prelude.{◌==◌, find, is_some, option_and_then, slice_get}
 use Rattle.std.specs.FinMap as fin_map
-use Rattle.rr_map_laws.proofs.MapLaws.{get-map_values}
+use Rattle.rr_table.proofs.MapLaws.{get-map_values}
 use Rattle.rr_table.specs.TableView.{TableEntry}
 use Rattle.std.proofs.lemmas.Bool.{eqb-true}
 use Rattle.rr_protocol.specs.Ports.{Client, Server}

@@ -1,7 +1,7 @@
 -- A response on loan is of the server that has its active request.
 use Rattle.std.proofs.Common.{◌≡◌, ℕ, true, Option, Some, None, option_map, refl, sym, ap, ◌∙◌}
 use Rattle.std.specs.FinMap as fin_map
-use Rattle.rr_map_laws.proofs.MapLaws.{get-map_values}
+use Rattle.rr_table.proofs.MapLaws.{get-map_values}
 use Rattle.rr_table.specs.TableView.{TableEntry}
 use Rattle.rr_laws.specs.Apart.{LoansKeepServers}
 use Rattle.rr_laws.specs.Roles.{Answer, LoanedRequest, LoanedResponse, Question, ReceivedRequest, ReceivedResponse, Role, SentRequest, answer_of, question_of, role_of, roles_of}

@@ -5,7 +5,7 @@ use Rattle.std.specs.FinMap as fin_map
 use Rattle.std.specs.List.{list_any}
 use Rattle.std.proofs.lemmas.Bool.{cases_eq, eq-eqb, lt-ltb}
 use Rattle.std.proofs.lemmas.Option.{get_or_from_slice_get}
-use Rattle.rr_map_laws.proofs.MapLaws.{tally-at}
+use Rattle.rr_table.proofs.MapLaws.{tally-at}
 use Rattle.rr_table.specs.TableView.{TableEntry, TableView, kept_in, table_entry, value_in}
 use Rattle.rr_table.specs.declared.place.Place.{Place}
 use Rattle.rr_protocol.specs.Counts.{is_in_use}

@@ -8,7 +8,7 @@ use Rattle.std.specs.FinMap.{FinMap, get, insert, same_map, nat_cmp-IsAntisymmet
 use Rattle.std.specs.Cmp.{nat_cmp_total}
 use Rattle.std.specs.Ordering.{nat_cmp}
 use Rattle.std.proofs.lemmas.Bool.{cases_eq, eqb-true, false≢true}
-use Rattle.rr_map_laws.proofs.MapLaws.{get-insert_other, get-insert_same}
+use Rattle.rr_table.proofs.MapLaws.{get-insert_other, get-insert_same}
 use Rattle.rr_table.specs.TableView.{table_entry}
 use Rattle.rr_sender.specs.Senders.{uses}
 use Rattle.rr_protocol.specs.Backpressure.{discards}

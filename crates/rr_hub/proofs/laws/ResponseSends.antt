@@ -7,7 +7,7 @@ use Rattle.std.specs.List.{position}
 use Rattle.std.proofs.lemmas.Bool.{cases_lt}
 use Rattle.std.proofs.lemmas.List.{get_or-set_same}
 use Rattle.std.proofs.lemmas.Option.{slice_get_within}
-use Rattle.rr_map_laws.proofs.MapLaws.{get-insert_other, get-insert_same}
+use Rattle.rr_table.proofs.MapLaws.{get-insert_other, get-insert_same}
 use Rattle.rr_slots.specs.Pools as slot
 use Rattle.rr_table.specs.TableView.{inserted, table_entry}
 use Rattle.rr_table.specs.declared.place.Place.{Place}

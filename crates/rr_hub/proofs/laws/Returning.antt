@@ -4,7 +4,7 @@ use Rattle.std.specs.Cmp.{nat_cmp_total}
 use Rattle.std.specs.FinMap as fin_map
 use Rattle.std.specs.Ordering.{nat_cmp}
 use Rattle.std.proofs.lemmas.Bool.{cases_eq}
-use Rattle.rr_map_laws.proofs.MapLaws.{get-insert_other, get-insert_same, get-remove_other, get-remove_same}
+use Rattle.rr_table.proofs.MapLaws.{get-insert_other, get-insert_same, get-remove_other, get-remove_same}
 
 module _ {X : Type 0} (m : fin_map.FinMap nat_cmp X) (n k : ℕ) (a b c d : X) (is : fin_map.get m n ≡ Some d) (none : fin_map.get m k ≡ None)
     (apart : n ≢ k) where

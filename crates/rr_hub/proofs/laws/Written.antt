@@ -1,7 +1,7 @@
 -- A message that was loaned and written can be sent.
 use Rattle.std.proofs.Common.{◌≡◌, ◌≢◌, ℕ, List, Option, None, Some, Ok, option_map, refl, sym, ap, ◌∙◌, subst}
 use Rattle.std.specs.Prelude.{IsSome}
-use Rattle.rr_map_laws.proofs.MapLaws.{get-insert_same}
+use Rattle.rr_table.proofs.MapLaws.{get-insert_same}
 use Rattle.rr_protocol.specs.declared.kind.Kind.{Kind}
 use Rattle.rr_protocol.specs.Messages.{ActiveRequest, Content, Handle, PendingResponse, RequestMut, RequestMutUninit, Response, ResponseMut, ResponseMutUninit}
 use Rattle.rr_protocol.specs.Queries.{kind_at, kind_of}

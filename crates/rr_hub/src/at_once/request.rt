@@ -1,4 +1,4 @@
-//! Requests of one element that are loaned, written and sent at once.
+//! Requests of one element that a single call loans, writes and sends.
 ghost use Rattle.std.specs.Prelude.{◌≡◌, ◌<◌, ◌∷◌, [], ℕ, IfErr, IfOk, IsTrue, Ok, Err, Some};
 ghost use Rattle.rr_hub.specs.Copies.{IsOfCore, SendsRequestAtOnce, with_complete_request};
 ghost use Rattle.rr_protocol.specs.declared.kind.Kind.TheVariants as kind;
@@ -41,7 +41,8 @@ pub(crate) fn send_request_at_once<
     requires len { IsTrue (takes_len QB.family 1) }
     requires one { (body : QB) → QB.asked_len body ≡ 1 }
     ensures core { IsCore (opened store.new) }
-    ensures sends { SendsRequestAtOnce QH.is_default K.action (state_of (opened store.old)) client 1 (element ∷ []) result (state_of (opened store.new)) }
+    ensures sends { SendsRequestAtOnce QH.is_default K.action (state_of (opened store.old)) client 1 (element ∷ [])
+        result (state_of (opened store.new)) }
 {
     let index = store.clients.index_of(client);
     if let Some(refusal) = request_loan_limit(store, index, 1) {
@@ -76,7 +77,7 @@ pub(crate) fn send_request_at_once<
     }
 }
 
-/// Loans a request of one element, writes the element and sends it, one after another.
+/// Loans a request of one element, writes the element and sends it, in three steps.
 ///
 /// # Errors
 ///
@@ -99,7 +100,8 @@ fn send_request_in_steps<
     requires len { IsTrue (takes_len QB.family 1) }
     requires one { (body : QB) → QB.asked_len body ≡ 1 }
     ensures core { IsCore (opened store.new) }
-    ensures sends { SendsRequestAtOnce QH.is_default K.action (state_of (opened store.old)) client 1 (element ∷ []) result (state_of (opened store.new)) }
+    ensures sends { SendsRequestAtOnce QH.is_default K.action (state_of (opened store.old)) client 1 (element ∷ [])
+        result (state_of (opened store.new)) }
 {
     match loan_request(store, client, 1) {
         Ok(request) => send_loaned_request(store, request, element),
@@ -107,7 +109,7 @@ fn send_request_in_steps<
     }
 }
 
-/// Writes the one element of a request that was loaned just now and sends it. It keeps its number.
+/// Writes the only element of a request that was just loaned and sends it. It keeps its number.
 ///
 /// # Errors
 ///
@@ -129,8 +131,12 @@ fn send_loaned_request<
     ensures core { IsCore (opened store.new) }
     ensures ready { IsOfCore (with_complete_request (state_of (opened store.old)) request (element ∷ [])) }
     ensures same { IfOk result (λ pending. pending ≡ request) }
-    ensures sent { IfOk result (λ pending. (connections : ℕ) × SendsRequest K.action (with_complete_request (state_of (opened store.old)) request (element ∷ [])) request (Ok connections) (state_of (opened store.new))) }
-    ensures refused { IfErr result (λ error. SendsRequest K.action (with_complete_request (state_of (opened store.old)) request (element ∷ [])) request (Err error) (state_of (opened store.new))) }
+    ensures sent { IfOk result (λ pending. (connections : ℕ)
+        × SendsRequest K.action (with_complete_request (state_of (opened store.old)) request (element ∷ [])) request
+        (Ok connections) (state_of (opened store.new))) }
+    ensures refused { IfErr result (λ error. SendsRequest K.action
+        (with_complete_request (state_of (opened store.old)) request (element ∷ [])) request (Err error)
+        (state_of (opened store.new))) }
 {
     let number = request.number();
     let place = store.locate(&request);

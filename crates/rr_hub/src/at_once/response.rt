@@ -1,4 +1,4 @@
-//! Responses of one element that are loaned, written and sent at once.
+//! Responses of one element that a single call loans, writes and sends.
 ghost use Rattle.std.specs.Prelude.{◌≡◌, ◌<◌, ◌∷◌, [], IsTrue, Some};
 ghost use Rattle.rr_hub.specs.Copies.{IsOfCore, SendsResponseAtOnce, with_complete_response};
 ghost use Rattle.rr_protocol.specs.declared.kind.Kind.TheVariants as kind;
@@ -19,7 +19,7 @@ use rr_store::{HandleId, Store};
 use rr_table::Place;
 use rr_writing::write_response_at;
 
-/// Loans a response of one element from the active request that stands in this place, writes the element and sends it.
+/// Loans a response of one element from the active request in this place, writes the element and sends it.
 ///
 /// # Errors
 ///
@@ -45,7 +45,8 @@ pub(crate) fn send_response_at_once<
     requires len { IsTrue (takes_len PB.family 1) }
     requires one { (body : PB) → PB.asked_len body ≡ 1 }
     ensures core { IsCore (opened store.new) }
-    ensures sends { SendsResponseAtOnce PH.is_default K.action (state_of (opened store.old)) active 1 (element ∷ []) result (state_of (opened store.new)) }
+    ensures sends { SendsResponseAtOnce PH.is_default K.action (state_of (opened store.old)) active 1 (element ∷ [])
+        result (state_of (opened store.new)) }
 {
     let entry = store.table.at(active, place);
     let (server, loans) = match entry.stage.active() {
@@ -76,7 +77,7 @@ pub(crate) fn send_response_at_once<
     }
 }
 
-/// Loans a response of one element, writes the element and sends it, one after another.
+/// Loans a response of one element, writes the element and sends it, in three steps.
 ///
 /// # Errors
 ///
@@ -101,7 +102,8 @@ fn send_response_in_steps<
     requires len { IsTrue (takes_len PB.family 1) }
     requires one { (body : PB) → PB.asked_len body ≡ 1 }
     ensures core { IsCore (opened store.new) }
-    ensures sends { SendsResponseAtOnce PH.is_default K.action (state_of (opened store.old)) active 1 (element ∷ []) result (state_of (opened store.new)) }
+    ensures sends { SendsResponseAtOnce PH.is_default K.action (state_of (opened store.old)) active 1 (element ∷ [])
+        result (state_of (opened store.new)) }
 {
     match loan_response_at(store, active, place, 1) {
         Ok(response) => send_loaned_response(store, &response, element),
@@ -109,7 +111,7 @@ fn send_response_in_steps<
     }
 }
 
-/// Writes the one element of a response that was loaned just now and sends it.
+/// Writes the only element of a response that was just loaned and sends it.
 ///
 /// # Errors
 ///
@@ -130,7 +132,8 @@ fn send_loaned_response<
     requires one { (body : PB) → PB.asked_len body ≡ 1 }
     ensures core { IsCore (opened store.new) }
     ensures ready { IsOfCore (with_complete_response (state_of (opened store.old)) response.now (element ∷ [])) }
-    ensures sends { SendsResponse K.action (with_complete_response (state_of (opened store.old)) response.now (element ∷ [])) response.now result (state_of (opened store.new)) }
+    ensures sends { SendsResponse K.action (with_complete_response (state_of (opened store.old)) response.now
+        (element ∷ [])) response.now result (state_of (opened store.new)) }
 {
     let number = response.number();
     let place = store.locate(response);

@@ -5,8 +5,8 @@ use Rattle.std.specs.FinMap.{get, insert}
 use Rattle.std.specs.List.{AllByRecursion, list_any}
 use Rattle.std.proofs.lemmas.Bool.{eq-eqb, eqb-false, lt-leb}
 use Rattle.std.proofs.lemmas.List.{map-append}
-use Rattle.rr_map_laws.proofs.ListFacts.{all_map}
-use Rattle.rr_map_laws.proofs.MapLaws.{get-insert_same, get-insert_other}
+use Rattle.rr_table.proofs.ListFacts.{all_map}
+use Rattle.rr_table.proofs.MapLaws.{get-insert_same, get-insert_other}
 use Rattle.rr_protocol.specs.declared.limits.Limits.{Limits}
 use Rattle.rr_protocol.specs.declared.settings.BackpressureAction.{BackpressureAction}
 use Rattle.rr_protocol.specs.Keys.{RequestKey, request_key}
@@ -17,7 +17,7 @@ use Rattle.rr_protocol.specs.State.{State}
 use Rattle.rr_protocol.specs.Loans.{with_loaned_request, LoansRequest}
 use Rattle.rr_protocol.specs.Sends.{put, with_request_put, with_sent_request, SendsRequest}
 use Rattle.rr_protocol.proofs.KeyLaws.{request_keys_total, request_keys_exact}
-use Rattle.rr_commands.specs.Step.{with_complete}
+use Rattle.rr_protocol.specs.Step.{with_complete}
 use Rattle.rr_laws.specs.Roles.{Question, LoanedRequest, SentRequest, Roles, roles_of, question_of}
 use Rattle.rr_laws.specs.Reached.{IsReached}
 use Rattle.rr_laws.specs.Filling.{only_client, is_request, IsHolding, IsServed}

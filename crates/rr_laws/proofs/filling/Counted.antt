@@ -8,9 +8,9 @@ use Rattle.std.specs.FinMap as fin_map
 use Rattle.std.proofs.lemmas.Bool.{eq-eqb, eqb-true}
 use Rattle.std.proofs.lemmas.List.Folds.{list_any-append}
 use Rattle.std.proofs.lemmas.Map.Made.{length-le_from_is_member}
-use Rattle.rr_map_laws.proofs.ListFacts.{or_true, any-append, any-filter, any-map, any-filter_map}
-use Rattle.rr_map_laws.proofs.MapFacts.{any_value}
-use Rattle.rr_map_laws.proofs.Members.{any_of_all, any-flat, entry_there}
+use Rattle.rr_table.proofs.ListFacts.{or_true, any-append, any-filter, any-map, any-filter_map}
+use Rattle.rr_table.proofs.MapFacts.{any_value}
+use Rattle.rr_table.proofs.Members.{any_of_all, any-flat, entry_there}
 use Rattle.rr_protocol.specs.declared.limits.Limits.{Limits}
 use Rattle.rr_protocol.proofs.KeyLaws.{request_keys_total}
 use Rattle.rr_protocol.specs.Keys.{RequestKey}

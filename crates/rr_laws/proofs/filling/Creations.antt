@@ -4,7 +4,7 @@ use Rattle.std.specs.Prelude.{IsSomeAnd, is_some, find, nat_eq}
 use Rattle.std.specs.FinMap.{get-empty}
 use Rattle.std.specs.List.{AllByRecursion, IsDistinct}
 use Rattle.std.proofs.lemmas.Bool.{eqb-true, ne_eqb}
-use Rattle.rr_map_laws.proofs.ListFacts.{all_each, all_found, passes_found}
+use Rattle.rr_table.proofs.ListFacts.{all_each, all_found, passes_found}
 use Rattle.rr_slots.specs.declared.family.Family.TheVariants.{Typed}
 use Rattle.rr_protocol.specs.declared.limits.Limits.{Limits}
 use Rattle.rr_protocol.specs.declared.settings.BackpressureAction.{BackpressureAction}
@@ -17,9 +17,9 @@ use Rattle.rr_protocol.specs.Lists.{list_of, at}
 use Rattle.rr_protocol.specs.Messages.{RequestMessage}
 use Rattle.rr_protocol.specs.Ports.{Server}
 use Rattle.rr_protocol.specs.State.{State, client_at, empty_hub}
-use Rattle.rr_commands.specs.declared.command.Command.{Command}
-use Rattle.rr_commands.specs.declared.reply.Reply.{Reply}
-use Rattle.rr_commands.specs.Step.{Step, client_settings}
+use Rattle.rr_protocol.specs.declared.command.Command.{Command}
+use Rattle.rr_protocol.specs.declared.reply.Reply.{Reply}
+use Rattle.rr_protocol.specs.Step.{Step, client_settings}
 use Rattle.rr_laws.specs.Roles.{roles_of}
 use Rattle.rr_laws.specs.Reached.{RequestFits, IsReached}
 use Rattle.rr_laws.specs.Filling.{only_client, Lives, IsHolding, IsServed}

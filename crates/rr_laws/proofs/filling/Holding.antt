@@ -5,8 +5,8 @@ use Rattle.std.specs.FinMap.{get}
 use Rattle.std.specs.List.{list_any}
 use Rattle.std.proofs.lemmas.Bool.{eqb-true, ne_eqb}
 use Rattle.std.proofs.lemmas.List.{length-append}
-use Rattle.rr_map_laws.proofs.ListFacts.{all_append, all_each}
-use Rattle.rr_map_laws.proofs.Members.{any_of_all}
+use Rattle.rr_table.proofs.ListFacts.{all_append, all_each}
+use Rattle.rr_table.proofs.Members.{any_of_all}
 use Rattle.rr_protocol.specs.declared.limits.Limits.{Limits}
 use Rattle.rr_protocol.specs.Keys.{RequestKey}
 use Rattle.rr_protocol.specs.Lists.{at}

@@ -7,8 +7,8 @@ use Rattle.std.specs.declared.cmp.Ordering.TheVariants.{Less, Equal, Greater}
 use Rattle.std.specs.Ordering.{is_eq}
 use Rattle.std.specs.Cmp.{IsTotalOrder}
 use Rattle.std.specs.FinMap as fin_map
-use Rattle.rr_map_laws.proofs.ListFacts.{any-append}
-use Rattle.rr_map_laws.proofs.MapFacts.{itself}
+use Rattle.rr_table.proofs.ListFacts.{any-append}
+use Rattle.rr_table.proofs.MapFacts.{itself}
 use Rattle.rr_protocol.specs.Lists.{Lists, at, with_at}
 use Rattle.rr_protocol.specs.Sends.{is_full, put}
 use Rattle.rr_protocol.proofs.ListsLaws.{at-with_at}

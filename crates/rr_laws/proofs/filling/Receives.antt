@@ -7,8 +7,8 @@ use Rattle.std.specs.Ordering.{eq_by_cmp, is_eq}
 use Rattle.std.specs.declared.cmp.Ordering.{Ordering}
 use Rattle.std.specs.declared.cmp.Ordering.TheVariants.{Less, Equal, Greater}
 use Rattle.std.proofs.lemmas.Bool.{cases_eq}
-use Rattle.rr_map_laws.proofs.MapFacts.{itself}
-use Rattle.rr_map_laws.proofs.MapLaws.{get-insert_same, get-insert_other}
+use Rattle.rr_table.proofs.MapFacts.{itself}
+use Rattle.rr_table.proofs.MapLaws.{get-insert_same, get-insert_other}
 use Rattle.rr_protocol.specs.declared.limits.Limits.{Limits}
 use Rattle.rr_protocol.specs.Counts.{is_alive}
 use Rattle.rr_protocol.specs.Keys.{RequestKey, request_key, request_key_cmp}

@@ -5,7 +5,7 @@ use Rattle.std.specs.FinMap.{get, remove}
 use Rattle.std.specs.List.{list_any}
 use Rattle.std.specs.Option.{option_map_or}
 use Rattle.std.proofs.lemmas.Bool.{cases_eq}
-use Rattle.rr_map_laws.proofs.MapLaws.{get-remove_other}
+use Rattle.rr_table.proofs.MapLaws.{get-remove_other}
 use Rattle.rr_protocol.specs.declared.limits.Limits.{Limits}
 use Rattle.rr_protocol.specs.Keys.{RequestKey, request_key}
 use Rattle.rr_protocol.specs.Lists.{at}

@@ -4,8 +4,8 @@ use Rattle.std.specs.Prelude.{IsSomeAnd, find, if◌then◌else◌, nat_le, opti
 use Rattle.std.specs.FinMap.{get, insert}
 use Rattle.std.specs.List.{list_any}
 use Rattle.std.proofs.lemmas.Bool.{eq-eqb, eqb-true}
-use Rattle.rr_map_laws.proofs.ListFacts.{find-changed, passes_found}
-use Rattle.rr_map_laws.proofs.MapLaws.{get-insert_same, get-insert_other}
+use Rattle.rr_table.proofs.ListFacts.{find-changed, passes_found}
+use Rattle.rr_table.proofs.MapLaws.{get-insert_same, get-insert_other}
 use Rattle.rr_protocol.specs.declared.limits.Limits.{Limits}
 use Rattle.rr_protocol.specs.Lists.{at}
 use Rattle.rr_protocol.specs.Ports.{Client}

@@ -7,10 +7,10 @@ use Rattle.rr_protocol.specs.declared.settings.BackpressureAction.{BackpressureA
 use Rattle.rr_protocol.specs.Messages.{RequestMessage}
 use Rattle.rr_protocol.specs.Ports.{Client}
 use Rattle.rr_protocol.specs.State.{State, client_at}
-use Rattle.rr_commands.specs.declared.command.Command.{Command}
-use Rattle.rr_commands.specs.declared.reply.Reply.{Reply}
-use Rattle.rr_commands.specs.Refusals.{refusal}
-use Rattle.rr_commands.specs.Step.{Acts, Step}
+use Rattle.rr_protocol.specs.declared.command.Command.{Command}
+use Rattle.rr_protocol.specs.declared.reply.Reply.{Reply}
+use Rattle.rr_protocol.specs.Refusals.{refusal}
+use Rattle.rr_protocol.specs.Step.{Acts, Step}
 use Rattle.rr_laws.specs.Roles.{ReceivedRequest, question_of}
 use Rattle.rr_laws.specs.Reached.{IsReached, has_server}
 use Rattle.rr_laws.specs.Filling.{only_client, LivesElsewhere, IsHolding, IsServed, Waits, IsSent}

@@ -11,9 +11,9 @@ use Rattle.std.proofs.lemmas.List.{get_or_past}
 use Rattle.std.proofs.lemmas.List.Folds.{list_any-append}
 use Rattle.std.proofs.lemmas.Option.{slice_get-get_or, get_or_from_slice_get, slice_get_within}
 use Rattle.rr_table.specs.TableView.{TableEntry}
-use Rattle.rr_map_laws.proofs.ListFacts.{any-map, any-filter_map, or_true}
-use Rattle.rr_map_laws.proofs.MapLaws.{entries-map_values}
-use Rattle.rr_map_laws.proofs.Members.{any-filtered, any-flat, entry_gives, entry_there, tally_gives}
+use Rattle.rr_table.proofs.ListFacts.{any-map, any-filter_map, or_true}
+use Rattle.rr_table.proofs.MapLaws.{entries-map_values}
+use Rattle.rr_table.proofs.Members.{any-filtered, any-flat, entry_gives, entry_there, tally_gives}
 use Rattle.rr_sender.specs.Senders.{Messages, times, queue_at, all_entries, borrowed_at, uses, used_count}
 use Rattle.rr_protocol.specs.Lists.{Lists, list_of, at, all_elements}
 use Rattle.rr_protocol.specs.Messages.{Handle}

@@ -9,7 +9,7 @@ use Rattle.std.proofs.lemmas.Option.{slice_get_within, get_or_from_slice_get}
 use Rattle.rr_slots.specs.declared.pool.AcquireError.{AcquireError}
 use Rattle.rr_table.specs.TableView.{TableEntry, IsInside, IsVacant, table_entry}
 use Rattle.rr_table.specs.declared.place.Place.{Place}
-use Rattle.rr_map_laws.proofs.MapLaws.{get-insert_cases, get-insert_other}
+use Rattle.rr_table.proofs.MapLaws.{get-insert_cases, get-insert_other}
 use Rattle.rr_sender.specs.Senders.{all_entries, loaned, times, used_count}
 use Rattle.rr_protocol.specs.declared.error.LoanError.{LoanError}
 use Rattle.rr_protocol.specs.declared.kind.Kind.{Kind}

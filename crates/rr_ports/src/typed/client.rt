@@ -1,4 +1,4 @@
-//! What a client of the typed family loans and sends.
+//! Loans and sends of a client, in the typed family.
 #![tactic(auto, using(crate::proofs::Asking::asks), unfolding(crate::specs::Facts::Has, crate::specs::Facts::numbers_left))]
 
 ghost use Rattle.std.specs.Prelude.{◌+◌, ◌≤◌, ◌<◌, ◌≢◌, Err, IfErr, IfOk, [], ℕ, ◌∷◌, suc};
@@ -22,13 +22,14 @@ use rr_hub::{BackpressureFn, LoanError, RequestSendError};
 use rr_slots::Body;
 
 impl<T: Drop> Client<Option<T>> {
-    /// Loans a request whose payload is to be written, under the next number, of which one is left. Takes no memory. After
-    /// iceoryx2's `Client::loan_uninit`.
+    /// Loans a request whose payload is to be written, under the next number; at least one must be left. Takes no
+    /// memory. After iceoryx2's `Client::loan_uninit`.
     ///
     /// # Errors
     ///
     /// An error leaves the hub as it was.
-    /// - `ExceedsMaxLoans` if the client has as many requests on loan as it may. Not if fewer of its handles live (`few_loans`).
+    /// - `ExceedsMaxLoans` if the client has its maximum of requests on loan. Never if fewer of its handles live
+    ///   (`few_loans`).
     /// - `OutOfMemory` if the client's live requests fill its pool. A pool of the worst-case size never returns it.
     #[inline(always)]
     pub fn loan_uninit<QH: Default + Drop, PB: Body, PH: Default + Drop, K: BackpressureFn>(
@@ -39,7 +40,8 @@ impl<T: Drop> Client<Option<T>> {
         requires number { 0 < numbers_left hub.old }
         ensures loans { LoansRequest QH.is_default hub.old self.now 1 result hub.new }
         ensures unreduced { ClientHasPool hub.old.limits hub.old self.now 1 → result ≢ Err LoanError.OutOfMemory }
-        ensures whole { (room : ℕ) → 1 ≤ room → Has hub.old self.now (WholePool room) → result ≢ Err LoanError.OutOfMemory }
+        ensures whole { (room : ℕ) → 1 ≤ room → Has hub.old self.now (WholePool room)
+            → result ≢ Err LoanError.OutOfMemory }
         ensures free { IfOk result (λ request. IsFree [] hub.old request) }
         ensures kind { IfOk result (λ request. Names hub.new request kind.RequestMutUninit) }
         ensures says { IfOk result (λ request. Has hub.new request (Asks [])) }
@@ -50,10 +52,13 @@ impl<T: Drop> Client<Option<T>> {
         ensures heard { KeepsHeard [] hub.old hub.new }
         ensures awaited { KeepsAwaited [] hub.old hub.new }
         ensures owned { KeepsOwned (self.now ∷ []) hub.old hub.new }
-        ensures owns { (most : ℕ) → Owns hub.old self.now most → IfOk result (λ request. Owns hub.new self.now (suc most)) }
+        ensures owns { (most : ℕ) → Owns hub.old self.now most
+            → IfOk result (λ request. Owns hub.new self.now (suc most)) }
         ensures owns_err { IfErr result (λ error. KeepsOwned [] hub.old hub.new) }
-        ensures few_loans { (most : ℕ) → Owns hub.old self.now most → IsBelow most hub.old.limits.max_loaned_requests → result ≢ Err LoanError.ExceedsMaxLoans }
-        ensures sure { (room : ℕ) → 1 ≤ room → Has hub.old self.now (WholePool room) → Owns hub.old self.now 0 → (error : _) → result ≢ Err error }
+        ensures few_loans { (most : ℕ) → Owns hub.old self.now most → IsBelow most hub.old.limits.max_loaned_requests
+            → result ≢ Err LoanError.ExceedsMaxLoans }
+        ensures sure { (room : ℕ) → 1 ≤ room → Has hub.old self.now (WholePool room) → Owns hub.old self.now 0
+            → (error : _) → result ≢ Err error }
     {
         hub.core.reached();
         request_mut_uninit::loaned(hub.core.loan_request(self.number, 1))
@@ -75,35 +80,41 @@ impl<T: Drop> Client<Option<T>> {
         requires number { 0 < numbers_left hub.old }
         ensures loans { LoansComplete QH.is_default (IsOneDefault T.is_default) hub.old self.now 1 result hub.new }
         ensures unreduced { ClientHasPool hub.old.limits hub.old self.now 1 → result ≢ Err LoanError.OutOfMemory }
-        ensures whole { (room : ℕ) → 1 ≤ room → Has hub.old self.now (WholePool room) → result ≢ Err LoanError.OutOfMemory }
+        ensures whole { (room : ℕ) → 1 ≤ room → Has hub.old self.now (WholePool room)
+            → result ≢ Err LoanError.OutOfMemory }
         ensures free { IfOk result (λ request. IsFree [] hub.old request) }
         ensures kind { IfOk result (λ request. Names hub.new request kind.RequestMut) }
-        ensures says { IfOk result (λ request. (value : T) × T.is_default value × Has hub.new request (Asks (value ∷ []))) }
+        ensures says { IfOk result (λ request. (value : T) × T.is_default value
+            × Has hub.new request (Asks (value ∷ []))) }
         ensures keeps { Keeps [] hub.old hub.new }
         ensures numbers { numbers_left hub.old ≤ numbers_left hub.new + 1 }
         ensures of { IfOk result (λ request. Has hub.new request (Of self.now request)) }
         ensures heard { KeepsHeard [] hub.old hub.new }
         ensures awaited { KeepsAwaited [] hub.old hub.new }
         ensures owned { KeepsOwned (self.now ∷ []) hub.old hub.new }
-        ensures owns { (most : ℕ) → Owns hub.old self.now most → IfOk result (λ request. Owns hub.new self.now (suc most)) }
+        ensures owns { (most : ℕ) → Owns hub.old self.now most
+            → IfOk result (λ request. Owns hub.new self.now (suc most)) }
         ensures owns_err { IfErr result (λ error. KeepsOwned [] hub.old hub.new) }
-        ensures few_loans { (most : ℕ) → Owns hub.old self.now most → IsBelow most hub.old.limits.max_loaned_requests → result ≢ Err LoanError.ExceedsMaxLoans }
-        ensures sure { (room : ℕ) → 1 ≤ room → Has hub.old self.now (WholePool room) → Owns hub.old self.now 0 → (error : _) → result ≢ Err error }
+        ensures few_loans { (most : ℕ) → Owns hub.old self.now most → IsBelow most hub.old.limits.max_loaned_requests
+            → result ≢ Err LoanError.ExceedsMaxLoans }
+        ensures sure { (room : ℕ) → 1 ≤ room → Has hub.old self.now (WholePool room) → Owns hub.old self.now 0
+            → (error : _) → result ≢ Err error }
     {
         let request = self.loan_uninit(hub)?;
         Ok(request.write_payload(hub, T::default()))
     }
 
-    /// Loans a request, writes a value and sends it. With `DiscardData` full queues are passed over, and the send is `Ok`. Takes no
-    /// memory. After iceoryx2's `Client::send_copy`.
+    /// Loans a request, writes a value and sends it. With `DiscardData` full queues are skipped, and the send is
+    /// `Ok`. Takes no memory. After iceoryx2's `Client::send_copy`.
     ///
     /// # Errors
     ///
-    /// - `SendError(LoanError(..))` as `loan_uninit`: a pool of the worst-case size never returns `OutOfMemory`. The hub stays as it
-    ///   was, and the value is dropped.
-    /// - `ExceedsMaxActiveRequests` and `SendError(UnableToDeliver)` as `RequestMut::send`. The request is gone.
+    /// - `SendError(LoanError(..))` as `loan_uninit`: a pool of the worst-case size never returns `OutOfMemory`. The
+    ///   hub stays as it was, and the value is dropped.
+    /// - `ExceedsMaxActiveRequests` and `SendError(UnableToDeliver)` as `RequestMut::send`. The request is released.
     ///
-    /// None comes if the pool is whole, the client discards at full queues and none of its handles lives (`sure`).
+    /// Never returned if the pool has the worst-case size, the client discards at full queues and none of its handles
+    /// lives (`sure`).
     ///
     /// # Examples
     ///
@@ -122,34 +133,44 @@ impl<T: Drop> Client<Option<T>> {
         requires kind { Names hub.old self.now kind.Client }
         requires number { 0 < numbers_left hub.old }
         ensures sends { SendsCopy QH.is_default K.action hub.old self.now value result hub.new }
-        ensures unreduced { ClientHasPool hub.old.limits hub.old self.now 1 → result ≢ Err (RequestSendError.SendError (send.LoanError LoanError.OutOfMemory)) }
-        ensures whole { (room : ℕ) → 1 ≤ room → Has hub.old self.now (WholePool room) → result ≢ Err (RequestSendError.SendError (send.LoanError LoanError.OutOfMemory)) }
+        ensures unreduced { ClientHasPool hub.old.limits hub.old self.now 1
+            → result ≢ Err (RequestSendError.SendError (send.LoanError LoanError.OutOfMemory)) }
+        ensures whole { (room : ℕ) → 1 ≤ room → Has hub.old self.now (WholePool room)
+            → result ≢ Err (RequestSendError.SendError (send.LoanError LoanError.OutOfMemory)) }
         ensures free { IfOk result (λ pending. IsFree [] hub.old pending) }
         ensures kind { IfOk result (λ pending. Names hub.new pending kind.PendingResponse) }
         ensures says { IfOk result (λ pending. Has hub.new pending (Asks (value ∷ []))) }
         ensures keeps { Keeps [] hub.old hub.new }
         ensures numbers { numbers_left hub.old ≤ numbers_left hub.new + 1 }
         ensures of { IfOk result (λ pending. Has hub.new pending (Of self.now pending)) }
-        ensures hears { (server : ℕ) → Names hub.old server kind.Server → HearsNothing hub.old server → IfOk result (λ pending. Hears hub.new server pending) }
+        ensures hears { (server : ℕ) → Names hub.old server kind.Server → HearsNothing hub.old server
+            → IfOk result (λ pending. Hears hub.new server pending) }
         ensures awaits { IfOk result (λ pending. AwaitsNothing hub.new pending) }
         ensures awaited { KeepsAwaited [] hub.old hub.new }
         ensures refused { IfErr result (λ error. KeepsHeard [] hub.old hub.new) }
-        ensures buffers { (port room : ℕ) → Has hub.old port (Buffers room) → IfOk result (λ pending. Has hub.new pending (Buffers room)) }
-        ensures discards { Has hub.old self.now Discards → result ≢ Err (RequestSendError.SendError send.UnableToDeliver) }
+        ensures buffers { (port room : ℕ) → Has hub.old port (Buffers room)
+            → IfOk result (λ pending. Has hub.new pending (Buffers room)) }
+        ensures discards { Has hub.old self.now Discards → result
+            ≢ Err (RequestSendError.SendError send.UnableToDeliver) }
         ensures owned { KeepsOwned (self.now ∷ []) hub.old hub.new }
-        ensures owns { (most : ℕ) → Owns hub.old self.now most → IfOk result (λ pending. Owns hub.new self.now (suc most)) }
+        ensures owns { (most : ℕ) → Owns hub.old self.now most
+            → IfOk result (λ pending. Owns hub.new self.now (suc most)) }
         ensures owns_err { IfErr result (λ error. KeepsOwned [] hub.old hub.new) }
-        ensures few_loans { (most : ℕ) → Owns hub.old self.now most → IsBelow most hub.old.limits.max_loaned_requests → result ≢ Err (RequestSendError.SendError (send.LoanError LoanError.ExceedsMaxLoans)) }
-        ensures few_active { (most : ℕ) → Owns hub.old self.now most → IsBelow most hub.old.limits.max_active_requests_per_client → result ≢ Err RequestSendError.ExceedsMaxActiveRequests }
-        ensures sure { (room : ℕ) → 1 ≤ room → Has hub.old self.now (WholePool room) → Has hub.old self.now Discards → Owns hub.old self.now 0 → (error : _) → result ≢ Err error }
+        ensures few_loans { (most : ℕ) → Owns hub.old self.now most → IsBelow most hub.old.limits.max_loaned_requests
+            → result ≢ Err (RequestSendError.SendError (send.LoanError LoanError.ExceedsMaxLoans)) }
+        ensures few_active { (most : ℕ) → Owns hub.old self.now most
+            → IsBelow most hub.old.limits.max_active_requests_per_client
+            → result ≢ Err RequestSendError.ExceedsMaxActiveRequests }
+        ensures sure { (room : ℕ) → 1 ≤ room → Has hub.old self.now (WholePool room) → Has hub.old self.now Discards
+            → Owns hub.old self.now 0 → (error : _) → result ≢ Err error }
     {
         hub.core.reached();
         pending_response::sent(hub.core.send_request_copy(self.number, value))
     }
 
-    /// Sends a value and waits for no answer: the pending response is released at once. A server still receives the request where
-    /// the limits have fire-and-forget requests, and else drops it. Takes no memory. Not in iceoryx2: `send_copy`, whose pending
-    /// response is dropped.
+    /// Sends a value and waits for no answer: the pending response is released at once. Servers still receive the
+    /// request if the limits allow fire-and-forget requests, and otherwise drop it. Takes no memory. Not in iceoryx2:
+    /// `send_copy`, whose pending response is dropped.
     ///
     /// # Errors
     ///
@@ -172,16 +193,22 @@ impl<T: Drop> Client<Option<T>> {
         requires kind { Names hub.old self.now kind.Client }
         requires number { 0 < numbers_left hub.old }
         ensures tells { TellsCopy QH.is_default K.action hub.old self.now value result hub.new }
-        ensures whole { (room : ℕ) → 1 ≤ room → Has hub.old self.now (WholePool room) → result ≢ Err (RequestSendError.SendError (send.LoanError LoanError.OutOfMemory)) }
+        ensures whole { (room : ℕ) → 1 ≤ room → Has hub.old self.now (WholePool room)
+            → result ≢ Err (RequestSendError.SendError (send.LoanError LoanError.OutOfMemory)) }
         ensures keeps { Keeps [] hub.old hub.new }
         ensures numbers { numbers_left hub.old ≤ numbers_left hub.new + 1 }
         ensures awaited { KeepsAwaited [] hub.old hub.new }
         ensures refused { IfErr result (λ error. KeepsHeard [] hub.old hub.new) }
-        ensures discards { Has hub.old self.now Discards → result ≢ Err (RequestSendError.SendError send.UnableToDeliver) }
+        ensures discards { Has hub.old self.now Discards → result
+            ≢ Err (RequestSendError.SendError send.UnableToDeliver) }
         ensures owned { KeepsOwned [] hub.old hub.new }
-        ensures few_loans { (most : ℕ) → Owns hub.old self.now most → IsBelow most hub.old.limits.max_loaned_requests → result ≢ Err (RequestSendError.SendError (send.LoanError LoanError.ExceedsMaxLoans)) }
-        ensures few_active { (most : ℕ) → Owns hub.old self.now most → IsBelow most hub.old.limits.max_active_requests_per_client → result ≢ Err RequestSendError.ExceedsMaxActiveRequests }
-        ensures sure { (room : ℕ) → 1 ≤ room → Has hub.old self.now (WholePool room) → Has hub.old self.now Discards → Owns hub.old self.now 0 → (error : _) → result ≢ Err error }
+        ensures few_loans { (most : ℕ) → Owns hub.old self.now most → IsBelow most hub.old.limits.max_loaned_requests
+            → result ≢ Err (RequestSendError.SendError (send.LoanError LoanError.ExceedsMaxLoans)) }
+        ensures few_active { (most : ℕ) → Owns hub.old self.now most
+            → IsBelow most hub.old.limits.max_active_requests_per_client
+            → result ≢ Err RequestSendError.ExceedsMaxActiveRequests }
+        ensures sure { (room : ℕ) → 1 ≤ room → Has hub.old self.now (WholePool room) → Has hub.old self.now Discards
+            → Owns hub.old self.now 0 → (error : _) → result ≢ Err error }
     {
         match self.send_copy(hub, value) {
             Ok(pending) => {

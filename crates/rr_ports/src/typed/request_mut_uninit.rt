@@ -19,21 +19,22 @@ use rr_slots::Body;
 use std::marker::PhantomData;
 
 impl<T: Drop> RequestMutUninit<Option<T>> {
-    /// Returns what was written: the payload, or `None` before it was written. After iceoryx2's `RequestMutUninit::payload`, which lends a
-    /// `MaybeUninit`.
+    /// Returns the payload, or `None` before it was written. After iceoryx2's `RequestMutUninit::payload`, which
+    /// lends a `MaybeUninit`.
     #[inline(always)]
     pub fn payload<'a, QH: Default + Drop, PB: Body, PH: Default + Drop, K: BackpressureFn>(
         &self,
         hub: &'a Hub<Option<T>, QH, PB, PH, K>,
     ) -> &'a Option<T>
         requires { Names hub.now self.now kind.RequestMutUninit }
-        ensures { IsSomeAnd (option_and_then request_in (handle_at hub.now self.now)) (λ m. m.content.elements ≡ option_elements result.now) }
+        ensures { IsSomeAnd (option_and_then request_in (handle_at hub.now self.now))
+            (λ m. m.content.elements ≡ option_elements result.now) }
     {
         hub.core.request_body(&self.id)
     }
 
-    /// Makes a value the payload, and the request one that can be sent. A value that was written before is dropped. After iceoryx2's
-    /// `RequestMutUninit::write_payload`.
+    /// Writes the payload, and makes the request ready to send. A value that was written before is dropped. After
+    /// iceoryx2's `RequestMutUninit::write_payload`.
     #[inline(always)]
     pub fn write_payload<QH: Default + Drop, PB: Body, PH: Default + Drop, K: BackpressureFn>(
         self,
@@ -42,7 +43,8 @@ impl<T: Drop> RequestMutUninit<Option<T>> {
     ) -> RequestMut<Option<T>>
         requires { Names hub.old self kind.RequestMutUninit }
         ensures same { result ≡ self }
-        ensures written { hub.new ≡ with_changed (with_changed hub.old self (with_request_content (with_elements (value ∷ [])))) self after_init }
+        ensures written { hub.new ≡ with_changed (with_changed hub.old self
+            (with_request_content (with_elements (value ∷ [])))) self after_init }
         ensures kind { Names hub.new result kind.RequestMut }
         ensures says { Has hub.new result (Asks (value ∷ [])) }
         ensures keeps { Keeps (self ∷ []) hub.old hub.new }

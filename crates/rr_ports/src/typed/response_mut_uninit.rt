@@ -19,21 +19,22 @@ use rr_slots::Body;
 use std::marker::PhantomData;
 
 impl<T: Drop> ResponseMutUninit<Option<T>> {
-    /// Returns what was written: the payload, or `None` before it was written. After iceoryx2's `ResponseMutUninit::payload`, which lends a
-    /// `MaybeUninit`.
+    /// Returns the payload, or `None` before it was written. After iceoryx2's `ResponseMutUninit::payload`, which
+    /// lends a `MaybeUninit`.
     #[inline(always)]
     pub fn payload<'a, QB: Body, QH: Default + Drop, PH: Default + Drop, K: BackpressureFn>(
         &self,
         hub: &'a Hub<QB, QH, Option<T>, PH, K>,
     ) -> &'a Option<T>
         requires { Names hub.now self.now kind.ResponseMutUninit }
-        ensures { IsSomeAnd (option_and_then response_in (handle_at hub.now self.now)) (λ m. m.content.elements ≡ option_elements result.now) }
+        ensures { IsSomeAnd (option_and_then response_in (handle_at hub.now self.now))
+            (λ m. m.content.elements ≡ option_elements result.now) }
     {
         hub.core.response_body(&self.id)
     }
 
-    /// Makes a value the payload, and the response one that can be sent. A value that was written before is dropped. After iceoryx2's
-    /// `ResponseMutUninit::write_payload`.
+    /// Writes the payload, and makes the response ready to send. A value that was written before is dropped. After
+    /// iceoryx2's `ResponseMutUninit::write_payload`.
     #[inline(always)]
     pub fn write_payload<QB: Body, QH: Default + Drop, PH: Default + Drop, K: BackpressureFn>(
         self,
@@ -42,7 +43,8 @@ impl<T: Drop> ResponseMutUninit<Option<T>> {
     ) -> ResponseMut<Option<T>>
         requires { Names hub.old self kind.ResponseMutUninit }
         ensures same { result ≡ self }
-        ensures written { hub.new ≡ with_changed (with_changed hub.old self (with_response_content (with_elements (value ∷ [])))) self after_init }
+        ensures written { hub.new ≡ with_changed (with_changed hub.old self
+            (with_response_content (with_elements (value ∷ [])))) self after_init }
         ensures kind { Names hub.new result kind.ResponseMut }
         ensures says { Has hub.new result (Answers (value ∷ [])) }
         ensures keeps { Keeps (self ∷ []) hub.old hub.new }

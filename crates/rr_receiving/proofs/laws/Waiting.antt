@@ -3,7 +3,7 @@ use Rattle.std.proofs.Common.{◌≡◌, ◌<◌, ℕ, Bool, true, false, List, 
 use Rattle.std.specs.Prelude.{◌↔◌, IsTrue, slice_get}
 use Rattle.std.proofs.lemmas.Bool.{false≢true, lt-ltb, ltb-true}
 use Rattle.std.proofs.lemmas.Option.{get_or_from_slice_get, slice_get-get_or, slice_get_within}
-use Rattle.rr_map_laws.proofs.Members.{any_gives, any_there}
+use Rattle.rr_table.proofs.Members.{any_gives, any_there}
 use Rattle.rr_sender.specs.Senders.{queue_at}
 use Rattle.rr_protocol.specs.Lists.{at}
 use Rattle.rr_protocol.specs.Messages.{response_key}

@@ -3,7 +3,7 @@ use Rattle.std.proofs.Common.{◌≡◌, ◌<◌, ◌≤◌, ◌+◌, ◌-◌, �
 use Rattle.std.specs.Prelude.{◌==◌, ◌&&◌, slice_index_or, slice_set}
 use Rattle.std.proofs.lemmas.Bool.{cases_eq, cases_lt, eq-eqb, ne_eqb}
 use Rattle.std.proofs.lemmas.List.{get_or-set_same, get_or-set_other, get_or_past, length-set}
-use Rattle.rr_map_laws.specs.Maps.{mark}
+use Rattle.rr_table.specs.Maps.{mark}
 use Rattle.rr_sender.specs.Senders.{at_two, set_two, borrowed_at}
 use Rattle.rr_sender.proofs.EntryLaws.{length-set_two}
 use Rattle.rr_store.specs.Parts.{Sender}

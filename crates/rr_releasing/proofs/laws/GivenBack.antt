@@ -3,7 +3,7 @@ use Rattle.std.proofs.Common.{◌≡◌, ◌<◌, ◌+◌, ◌-◌, ℕ, Bool, L
 use Rattle.std.specs.Prelude.{◌==◌, ◌&&◌, slice_index, slice_index_or, slice_set}
 use Rattle.std.proofs.lemmas.Bool.{cases_eq, eq-eqb, ne_eqb}
 use Rattle.std.proofs.lemmas.List.{get_or-set_same, get_or-set_other, length-set}
-use Rattle.rr_map_laws.specs.Maps.{mark}
+use Rattle.rr_table.specs.Maps.{mark}
 use Rattle.rr_sender.specs.Senders.{Messages}
 use Rattle.rr_store.specs.Parts.{Sender}
 use Rattle.rr_store.specs.Views.{sender_of, no_sender}

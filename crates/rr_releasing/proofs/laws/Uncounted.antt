@@ -4,7 +4,7 @@ use Rattle.std.specs.Prelude.{◌==◌, Option, None, Some}
 use Rattle.std.specs.Option.{option_map_or}
 use Rattle.std.specs.FinMap as fin_map
 use Rattle.rr_table.specs.TableView.{TableEntry}
-use Rattle.rr_map_laws.proofs.MapLaws.{map_values-same}
+use Rattle.rr_table.proofs.MapLaws.{map_values-same}
 use Rattle.rr_sender.specs.Senders.{queue_at}
 use Rattle.rr_protocol.specs.Keys.{RequestKey, ResponseKey}
 use Rattle.rr_protocol.specs.Messages.{RequestMessage, ResponseMessage}

@@ -3,7 +3,7 @@ use Rattle.std.proofs.Common.{◌≡◌, ℕ, Some, option_map, sym, ap, ◌∙�
 use Rattle.std.specs.Option.{option_map_or}
 use Rattle.std.specs.FinMap as fin_map
 use Rattle.rr_table.specs.TableView.{TableEntry, removed}
-use Rattle.rr_map_laws.proofs.MapLaws.{map_values-remove}
+use Rattle.rr_table.proofs.MapLaws.{map_values-remove}
 use Rattle.rr_protocol.specs.Messages.{port_of}
 use Rattle.rr_protocol.specs.State.{State, handle_at}
 use Rattle.rr_protocol.specs.Releases.{after_handle_gone, after_release, without_unused_port, without_port_value}

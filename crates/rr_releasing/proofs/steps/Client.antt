@@ -3,7 +3,7 @@ use Rattle.std.proofs.Common.{◌≡◌, ◌<◌, ◌⊎◌, ℕ, Bool, true, fa
 use Rattle.std.specs.Prelude.{◌==◌, ◌&&◌, slice_get}
 use Rattle.std.specs.List.{list_any}
 use Rattle.std.proofs.lemmas.Bool.{eq-eqb}
-use Rattle.rr_map_laws.proofs.Members.{any_there}
+use Rattle.rr_table.proofs.Members.{any_there}
 use Rattle.rr_sender.specs.Senders.{borrowed_at, queue_at}
 use Rattle.rr_protocol.specs.Releases.{after_client_left, room_for_expired_clients}
 use Rattle.rr_store.specs.declared.details.RequestDetails.{RequestDetails}

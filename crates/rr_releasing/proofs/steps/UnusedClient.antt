@@ -4,8 +4,8 @@ use Rattle.std.specs.Prelude.{◌==◌, ◌||◌, IsSome, IsSomeAnd, nat_lt, sli
 use Rattle.std.specs.List.{position}
 use Rattle.std.proofs.lemmas.Bool.{eq-eqb, eqb-true}
 use Rattle.std.proofs.lemmas.Option.{slice_get_cases}
-use Rattle.rr_map_laws.proofs.ListFacts.{any_found}
-use Rattle.rr_map_laws.proofs.Members.{any_there}
+use Rattle.rr_table.proofs.ListFacts.{any_found}
+use Rattle.rr_table.proofs.Members.{any_there}
 use Rattle.rr_protocol.specs.Counts.{is_in_use}
 use Rattle.rr_protocol.specs.Ports.{Client}
 use Rattle.rr_protocol.specs.Releases.{after_client_left, after_server_left, without_unused_port}

@@ -12,8 +12,8 @@ use rr_protocol::BackpressureFn;
 use rr_slots::Body;
 use rr_store::Store;
 
-/// Lets the client of a sender leave, if neither its value nor one of its handles lives. Looks at the sender alone while the
-/// value lives.
+/// Lets the client of a sender leave, if neither its value nor one of its handles lives. Reads only the sender while
+/// the value lives.
 #[inline(always)]
 pub fn leave_client_of_sender_if_unused<
     QB: Body,
@@ -25,14 +25,15 @@ pub fn leave_client_of_sender_if_unused<
     requires sound { IsSoundStore (opened store.old) empty_hand }
     requires port { HasPort (λ c. c.sender) (opened store.old).clients sender }
     ensures sound { IsSoundStore (opened store.new) empty_hand }
-    ensures view { state_of (opened store.new) ≡ without_unused_port (state_of (opened store.old)) (sender_of sender (opened store.old).client_senders).owner }
+    ensures view { state_of (opened store.new) ≡ without_unused_port (state_of (opened store.old))
+        (sender_of sender (opened store.old).client_senders).owner }
 {
     if !store.clients.has_value(sender) {
         leave_client_without_value(store, sender);
     }
 }
 
-/// Lets the client of a sender leave once its value is gone, if none of its handles lives.
+/// Lets a sender's client, whose value was released, leave if none of its handles lives.
 #[cold]
 fn leave_client_without_value<
     QB: Body,
@@ -44,13 +45,14 @@ fn leave_client_without_value<
     requires sound { IsSoundStore (opened store.old) empty_hand }
     requires port { HasPort (λ c. c.sender) (opened store.old).clients sender }
     ensures sound { IsSoundStore (opened store.new) empty_hand }
-    ensures view { state_of (opened store.new) ≡ without_unused_port (state_of (opened store.old)) (sender_of sender (opened store.old).client_senders).owner }
+    ensures view { state_of (opened store.new) ≡ without_unused_port (state_of (opened store.old))
+        (sender_of sender (opened store.old).client_senders).owner }
 {
     let index = store.clients.index_of_sender(sender);
     leave_client_if_unused(store, index);
 }
 
-/// Lets the client at an index leave, if neither its value nor one of its handles lives.
+/// Lets the client at `index` leave, if neither its value nor one of its handles lives.
 pub fn leave_client_if_unused<
     QB: Body,
     QH: Default + Drop,
@@ -61,24 +63,27 @@ pub fn leave_client_if_unused<
     requires sound { IsSoundStore (opened store.old) empty_hand }
     requires index { index < length (opened store.old).clients }
     ensures sound { IsSoundStore (opened store.new) empty_hand }
-    ensures view { IsSomeAnd (slice_get (opened store.old).clients index) (λ c. state_of (opened store.new) ≡ without_unused_port (state_of (opened store.old)) c.port.id) }
+    ensures view { IsSomeAnd (slice_get (opened store.old).clients index)
+        (λ c. state_of (opened store.new) ≡ without_unused_port (state_of (opened store.old)) c.port.id) }
 {
     if !is_client_used(store, index) {
         leave_client(store, index);
     }
 }
 
-/// Lets the client at an index leave, which is not in use: requests that it sent and nobody received become expired pairs of
-/// their receivers, and what waits for it is dropped.
+/// Lets the client at `index`, which is not in use, leave: its requests that nobody received become expired pairs of
+/// their receivers, and entries for it are dropped.
 fn leave_client<QB: Body, QH: Default + Drop, PB: Body, PH: Default + Drop, K: BackpressureFn>(
     store: &mut Store<QB, QH, PB, PH, K>,
     index: usize,
 )
     requires sound { IsSoundStore (opened store.old) empty_hand }
     requires index { index < length (opened store.old).clients }
-    requires unused { IsSomeAnd (slice_get (opened store.old).clients index) (λ c. is_client_used (opened store.old) c ≡ false) }
+    requires unused { IsSomeAnd (slice_get (opened store.old).clients index)
+        (λ c. is_client_used (opened store.old) c ≡ false) }
     ensures sound { IsSoundStore (opened store.new) empty_hand }
-    ensures view { IsSomeAnd (slice_get (opened store.old).clients index) (λ c. state_of (opened store.new) ≡ after_client_left (state_of (opened store.old)) c.port.id) }
+    ensures view { IsSomeAnd (slice_get (opened store.old).clients index)
+        (λ c. state_of (opened store.new) ≡ after_client_left (state_of (opened store.old)) c.port.id) }
 {
     let leaving = store.clients.leaving(index);
     let receiver = store.clients.receiver_of_port(index);
@@ -90,17 +95,21 @@ fn leave_client<QB: Body, QH: Default + Drop, PB: Body, PH: Default + Drop, K: B
     store.clients.remove_port(index, leaving);
 }
 
-/// Returns whether the value of the client at an index lives, or it has a handle. Looks at most once at each server's sender
-/// and channel.
+/// Returns whether the value of the client at `index` lives, or it has a handle. Reads each server's sender and
+/// channel at most once.
 #[cold]
 fn is_client_used<QB: Body, QH: Default + Drop, PB: Body, PH: Default + Drop, K: BackpressureFn>(
     store: &Store<QB, QH, PB, PH, K>,
     index: usize,
 ) -> bool
     requires inside { index < length store.now.clients.ports }
-    requires sender { (c : ClientPort K) → slice_get store.now.clients.ports index ≡ Some c → c.port.sender < length store.now.clients.senders }
-    requires receivers { (c : ClientPort K) → slice_get store.now.clients.ports index ≡ Some c → (l : ℕ) → l < length store.now.servers.senders → c.port.receiver < length (sender_of l store.now.servers.senders).messages.borrowed }
-    ensures used { (c : ClientPort K) → slice_get store.now.clients.ports index ≡ Some c → result ≡ is_client_used (opened store.now) (client_part c) }
+    requires sender { (c : ClientPort K) → slice_get store.now.clients.ports index ≡ Some c
+        → c.port.sender < length store.now.clients.senders }
+    requires receivers { (c : ClientPort K) → slice_get store.now.clients.ports index ≡ Some c → (l : ℕ)
+        → l < length store.now.servers.senders
+        → c.port.receiver < length (sender_of l store.now.servers.senders).messages.borrowed }
+    ensures used { (c : ClientPort K) → slice_get store.now.clients.ports index ≡ Some c
+        → result ≡ is_client_used (opened store.now) (client_part c) }
 {
     let port = &store.clients.port(index).port;
     let sender = port.sender;

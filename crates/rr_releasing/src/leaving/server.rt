@@ -12,8 +12,8 @@ use rr_protocol::BackpressureFn;
 use rr_slots::Body;
 use rr_store::Store;
 
-/// Lets the server of a sender leave, if neither its value nor one of its handles lives. Looks at the sender alone while the
-/// value lives.
+/// Lets the server of a sender leave, if neither its value nor one of its handles lives. Reads only the sender while
+/// the value lives.
 #[inline(always)]
 pub fn leave_server_of_sender_if_unused<
     QB: Body,
@@ -25,14 +25,15 @@ pub fn leave_server_of_sender_if_unused<
     requires sound { IsSoundStore (opened store.old) empty_hand }
     requires port { HasPort (λ s. s.sender) (opened store.old).servers sender }
     ensures sound { IsSoundStore (opened store.new) empty_hand }
-    ensures view { state_of (opened store.new) ≡ without_unused_port (state_of (opened store.old)) (sender_of sender (opened store.old).server_senders).owner }
+    ensures view { state_of (opened store.new) ≡ without_unused_port (state_of (opened store.old))
+        (sender_of sender (opened store.old).server_senders).owner }
 {
     if !store.servers.has_value(sender) {
         leave_server_without_value(store, sender);
     }
 }
 
-/// Lets the server of a sender leave once its value is gone, if none of its handles lives.
+/// Lets a sender's server, whose value was released, leave if none of its handles lives.
 #[cold]
 fn leave_server_without_value<
     QB: Body,
@@ -44,13 +45,14 @@ fn leave_server_without_value<
     requires sound { IsSoundStore (opened store.old) empty_hand }
     requires port { HasPort (λ s. s.sender) (opened store.old).servers sender }
     ensures sound { IsSoundStore (opened store.new) empty_hand }
-    ensures view { state_of (opened store.new) ≡ without_unused_port (state_of (opened store.old)) (sender_of sender (opened store.old).server_senders).owner }
+    ensures view { state_of (opened store.new) ≡ without_unused_port (state_of (opened store.old))
+        (sender_of sender (opened store.old).server_senders).owner }
 {
     let index = store.servers.index_of_sender(sender);
     leave_server_if_unused(store, index);
 }
 
-/// Lets the server at an index leave, if neither its value nor one of its handles lives.
+/// Lets the server at `index` leave, if neither its value nor one of its handles lives.
 pub fn leave_server_if_unused<
     QB: Body,
     QH: Default + Drop,
@@ -61,24 +63,27 @@ pub fn leave_server_if_unused<
     requires sound { IsSoundStore (opened store.old) empty_hand }
     requires index { index < length (opened store.old).servers }
     ensures sound { IsSoundStore (opened store.new) empty_hand }
-    ensures view { IsSomeAnd (slice_get (opened store.old).servers index) (λ s. state_of (opened store.new) ≡ without_unused_port (state_of (opened store.old)) s.port.id) }
+    ensures view { IsSomeAnd (slice_get (opened store.old).servers index)
+        (λ s. state_of (opened store.new) ≡ without_unused_port (state_of (opened store.old)) s.port.id) }
 {
     if !is_server_used(store, index) {
         leave_server(store, index);
     }
 }
 
-/// Lets the server at an index leave, which is not in use: responses that it sent and nobody received become expired pairs of
-/// their receivers, and what waits for it is dropped.
+/// Lets the server at `index`, which is not in use, leave: its responses that nobody received become expired pairs of
+/// their receivers, and entries for it are dropped.
 fn leave_server<QB: Body, QH: Default + Drop, PB: Body, PH: Default + Drop, K: BackpressureFn>(
     store: &mut Store<QB, QH, PB, PH, K>,
     index: usize,
 )
     requires sound { IsSoundStore (opened store.old) empty_hand }
     requires index { index < length (opened store.old).servers }
-    requires unused { IsSomeAnd (slice_get (opened store.old).servers index) (λ s. is_server_used (opened store.old) s ≡ false) }
+    requires unused { IsSomeAnd (slice_get (opened store.old).servers index)
+        (λ s. is_server_used (opened store.old) s ≡ false) }
     ensures sound { IsSoundStore (opened store.new) empty_hand }
-    ensures view { IsSomeAnd (slice_get (opened store.old).servers index) (λ s. state_of (opened store.new) ≡ after_server_left (state_of (opened store.old)) s.port.id) }
+    ensures view { IsSomeAnd (slice_get (opened store.old).servers index)
+        (λ s. state_of (opened store.new) ≡ after_server_left (state_of (opened store.old)) s.port.id) }
 {
     let leaving = store.servers.leaving(index);
     let receiver = store.servers.receiver_of_port(index);
@@ -90,16 +95,21 @@ fn leave_server<QB: Body, QH: Default + Drop, PB: Body, PH: Default + Drop, K: B
     store.servers.remove_port(index, leaving);
 }
 
-/// Returns whether the value of the server at an index lives, or it has a handle. Looks at most once at each client's sender.
+/// Returns whether the value of the server at `index` lives, or it has a handle. Reads each client's sender at most
+/// once.
 #[cold]
 fn is_server_used<QB: Body, QH: Default + Drop, PB: Body, PH: Default + Drop, K: BackpressureFn>(
     store: &Store<QB, QH, PB, PH, K>,
     index: usize,
 ) -> bool
     requires inside { index < length store.now.servers.ports }
-    requires sender { (s : ServerPort K) → slice_get store.now.servers.ports index ≡ Some s → s.port.sender < length store.now.servers.senders }
-    requires receivers { (s : ServerPort K) → slice_get store.now.servers.ports index ≡ Some s → (l : ℕ) → l < length store.now.clients.senders → s.port.receiver < length (sender_of l store.now.clients.senders).messages.borrowed }
-    ensures used { (s : ServerPort K) → slice_get store.now.servers.ports index ≡ Some s → result ≡ is_server_used (opened store.now) (server_part s) }
+    requires sender { (s : ServerPort K) → slice_get store.now.servers.ports index ≡ Some s
+        → s.port.sender < length store.now.servers.senders }
+    requires receivers { (s : ServerPort K) → slice_get store.now.servers.ports index ≡ Some s → (l : ℕ)
+        → l < length store.now.clients.senders
+        → s.port.receiver < length (sender_of l store.now.clients.senders).messages.borrowed }
+    ensures used { (s : ServerPort K) → slice_get store.now.servers.ports index ≡ Some s
+        → result ≡ is_server_used (opened store.now) (server_part s) }
 {
     let port = &store.servers.port(index).port;
     if port.has_value || store.servers.loans(port.sender) > 0 {

@@ -1,4 +1,4 @@
-//! How a pool is filled.
+//! Filling a pool.
 ghost use Rattle.std.specs.Prelude.{◌≡◌, ◌≢◌, ◌<◌, ◌+◌, ◌*◌, ◌↔◌, ℕ, false, Err, IfOk, None, OnOk, Ok, Some};
 ghost use Rattle.rr_protocol.specs.Limits.{hub_refusal};
 ghost use Rattle.rr_laws.specs.Filling.{IsSent, only_client};
@@ -9,24 +9,23 @@ ghost use Rattle.rr_run.specs.declared.least.stop.Stop.TheVariants as stop;
 ghost use Rattle.rr_run.specs.Filled.{Does, HasAsked, HasGrown, HasQueued, IsFilled, IsFilledUp, IsFull, IsLater, IsNoted, IsSameHub, IsSpare, IsUnused, all_requests, server_requests};
 ghost use Rattle.rr_run.specs.Least.{WantsMemory};
 
+use crate::Runner;
 use crate::least::outcome::{Outcome, outcome_of};
 use crate::least::stop::Stop;
 use crate::least::{LeastPoolError, PoolCommand, PoolReply};
-use rr_commands::Command;
-use rr_protocol::{ClientSettings, Limits, NoHandler, ServerSettings, UniqueNodeId};
-use rr_runner::Runner;
+use rr_protocol::{ClientSettings, Command, Limits, NoHandler, ServerSettings, UniqueNodeId};
 use std::alloc::Global;
 
 /// The number of the one client, which is the first port.
 const CLIENT: u64 = 0;
 
-/// A hub with one client, whose pool is filled, and what was done for that.
+/// A hub with one client, whose pool is being filled, and the commands and replies so far.
 #[derive(Drop)]
 pub(crate) struct Filling {
     pub(crate) limits: Limits,
-    /// What the client's override answers.
+    /// The result of the client's override.
     pub(crate) pool: usize,
-    /// How many requests of the client live.
+    /// How many requests of the client are live.
     pub(crate) live: usize,
     pub(crate) runner: Runner<u64, Option<u64>, u64, NoHandler>,
     pub(crate) commands: Vec<PoolCommand>,
@@ -34,12 +33,12 @@ pub(crate) struct Filling {
 }
 
 impl Filling {
-    /// Makes a hub with one client, whose override answers `pool`.
+    /// Makes a hub with one client, whose override returns `pool`.
     ///
     /// # Errors
     ///
     /// - `WrongLimits` exactly if the limits make no hub.
-    /// - `OutOfMemory` if no memory was found.
+    /// - `OutOfMemory` if there was no memory.
     pub(crate) fn new(alloc: Global, limits: Limits, pool: usize) -> Result<Self, LeastPoolError>
         requires { limits.enable_safe_overflow_for_requests ≡ false }
         ensures filled { IfOk result (λ f. IsFilled f × (f.live ≡ 0) × (f.limits ≡ limits) × (f.pool ≡ pool)) }
@@ -84,7 +83,7 @@ impl Filling {
     ///
     /// # Errors
     ///
-    /// - `OutOfMemory` if no memory was found, or no number is left.
+    /// - `OutOfMemory` if there was no memory, or no number is left.
     pub(crate) fn fill_up(&mut self) -> Result<(), LeastPoolError>
         requires { IsFilled self.old }
         ensures hub { IsSameHub self.old self.new }
@@ -98,8 +97,8 @@ impl Filling {
         }
     }
 
-    /// Fills the pool: each server holds as many requests as it may, and as many stand in the queue to it; as many wait for
-    /// responses as may, and as many are on loan.
+    /// Fills the pool: each server holds its maximum of requests and its queue is full; then the client has its
+    /// maximum of pending responses, and of requests on loan.
     fn fill(&mut self) -> Result<(), Stop>
         requires { IsFilled self.old }
         ensures hub { IsSameHub self.old self.new }
@@ -111,11 +110,12 @@ impl Filling {
         self.loan_all()
     }
 
-    /// Creates as many servers as may be, each of which then has as many requests as it can.
+    /// Creates the maximum of servers, and gives each its maximum of requests, held and queued.
     fn serve_all(&mut self) -> Result<(), Stop>
         requires { IsFilled self.old }
         ensures hub { IsSameHub self.old self.new }
-        ensures filled { OnOk result (HasGrown (self.old.limits.max_servers * server_requests self.old.limits) self.old self.new) }
+        ensures filled { OnOk result (HasGrown (self.old.limits.max_servers * server_requests self.old.limits)
+            self.old self.new) }
         ensures full { result ≡ Err stop.Full → IsFull self.new }
     {
         for _ in 0..self.limits.max_servers {
@@ -124,7 +124,7 @@ impl Filling {
         Ok(())
     }
 
-    /// Sends as many requests as may wait for responses.
+    /// Sends requests until the client has its maximum of pending responses.
     fn send_all(&mut self) -> Result<(), Stop>
         requires { IsFilled self.old }
         ensures hub { IsSameHub self.old self.new }
@@ -137,7 +137,7 @@ impl Filling {
         Ok(())
     }
 
-    /// Loans as many requests as may be on loan.
+    /// Loans requests until the client has its maximum of them on loan.
     fn loan_all(&mut self) -> Result<(), Stop>
         requires { IsFilled self.old }
         ensures hub { IsSameHub self.old self.new }
@@ -150,7 +150,7 @@ impl Filling {
         Ok(())
     }
 
-    /// Creates a server, which then holds as many requests as it may, and has as many in the queue to it.
+    /// Creates a server that holds its maximum of requests, and fills the queue to it.
     fn serve(&mut self) -> Result<(), Stop>
         requires { IsFilled self.old }
         ensures hub { IsSameHub self.old self.new }
@@ -162,12 +162,13 @@ impl Filling {
         self.queue_all(server)
     }
 
-    /// Has a server hold as many requests as it may.
+    /// Makes a server hold its maximum of requests.
     fn hold_all(&mut self, server: u64) -> Result<(), Stop>
         requires filled { IsFilled self.old }
         requires served { HasQueued self.old server 0 }
         ensures hub { IsSameHub self.old self.new }
-        ensures filled { OnOk result (HasGrown self.old.limits.max_active_requests_per_client self.old self.new × HasQueued self.new server 0) }
+        ensures filled { OnOk result (HasGrown self.old.limits.max_active_requests_per_client self.old self.new
+            × HasQueued self.new server 0) }
         ensures full { result ≡ Err stop.Full → IsFull self.new }
     {
         for _ in 0..self.limits.max_active_requests_per_client {
@@ -176,7 +177,7 @@ impl Filling {
         Ok(())
     }
 
-    /// Leaves as many requests in the queue to a server as it takes.
+    /// Fills the queue to a server.
     fn queue_all(&mut self, server: u64) -> Result<(), Stop>
         requires filled { IsFilled self.old }
         requires served { HasQueued self.old server 0 }
@@ -190,7 +191,7 @@ impl Filling {
         Ok(())
     }
 
-    /// Has a server hold one request more, whose client doesn't wait for a response.
+    /// Makes a server hold one more request, whose pending response is released.
     fn hold(&mut self, server: u64) -> Result<(), Stop>
         requires filled { IsFilled self.old }
         requires served { HasQueued self.old server 0 }
@@ -203,13 +204,15 @@ impl Filling {
         self.release(request)
     }
 
-    /// Leaves one request more in the queue to a server. Its client doesn't wait for a response.
+    /// Adds one request, whose pending response is released, to the queue to a server.
     fn queue(&mut self, server: u64) -> Result<(), Stop>
         requires filled { IsFilled self.old }
-        requires served { (n : ℕ) × (n < self.old.limits.max_active_requests_per_client) × HasQueued self.old server n }
+        requires served { (n : ℕ) × (n < self.old.limits.max_active_requests_per_client)
+            × HasQueued self.old server n }
         ensures hub { IsSameHub self.old self.new }
         ensures filled { OnOk result (HasGrown 1 self.old self.new) }
-        ensures served { OnOk result ((n : ℕ) → n < self.old.limits.max_active_requests_per_client → HasQueued self.old server n → HasQueued self.new server (n + 1)) }
+        ensures served { OnOk result ((n : ℕ) → n < self.old.limits.max_active_requests_per_client
+            → HasQueued self.old server n → HasQueued self.new server (n + 1)) }
         ensures full { result ≡ Err stop.Full → IsFull self.new }
     {
         let request = self.send()?;
@@ -233,7 +236,8 @@ impl Filling {
     fn send(&mut self) -> Result<u64, Stop>
         requires { IsFilled self.old }
         ensures hub { IsSameHub self.old self.new }
-        ensures filled { IfOk result (λ request. HasGrown 1 self.old self.new × IsSent self.old.runner self.new.runner self.old.limits request) }
+        ensures filled { IfOk result (λ request. HasGrown 1 self.old self.new
+            × IsSent self.old.runner self.new.runner self.old.limits request) }
         ensures full { result ≡ Err stop.Full → IsFull self.new }
     {
         match self.carry_out(Command::SendCopy(CLIENT, 0))? {
@@ -246,15 +250,16 @@ impl Filling {
         }
     }
 
-    /// Has a server receive the one request in the queue to it.
+    /// Makes a server receive the only request in its queue.
     fn receive(&mut self, server: u64, request: u64) -> Result<(), Stop>
         requires filled { IsFilled self.old }
         requires asked { HasAsked self.old server request }
         ensures hub { IsSameHub self.old self.new }
-        ensures filled { OnOk result (HasGrown 0 self.old self.new × HasQueued self.new server 0 × IsSpare self.new request) }
+        ensures filled { OnOk result (HasGrown 0 self.old self.new × HasQueued self.new server 0
+            × IsSpare self.new request) }
         ensures full { result ≢ Err stop.Full }
     {
-        // The contract alone speaks of it: the one request that is queued.
+        // Only the contract uses `request`: the request that is queued.
         let _ = request;
         match self.carry_out(Command::Receive(server))? {
             Outcome::Active => Ok(()),
@@ -262,7 +267,7 @@ impl Filling {
         }
     }
 
-    /// Releases a pending response, whose request lives without it.
+    /// Releases a pending response, whose request stays live.
     fn release(&mut self, request: u64) -> Result<(), Stop>
         requires filled { IsFilled self.old }
         requires spare { IsSpare self.old request }
@@ -294,7 +299,7 @@ impl Filling {
         }
     }
 
-    /// Carries out a command after the first one, and notes it and its reply.
+    /// Carries out a command other than the first, and records it with its reply.
     fn carry_out(&mut self, command: PoolCommand) -> Result<Outcome, Stop>
         requires noted { IsNoted self.old }
         requires later { IsLater command }
@@ -302,13 +307,14 @@ impl Filling {
         ensures live { self.new.live ≡ self.old.live }
         ensures noted { OnOk result (IsNoted self.new) }
         ensures step { IfOk result (λ outcome. Does self.old self.new command outcome) }
-        ensures full { result ≡ Ok told.Full → asked_in command ≡ Some (only_client, 1) → WantsMemory self.new.commands.items self.new.replies.items }
+        ensures full { result ≡ Ok told.Full → asked_in command ≡ Some (only_client, 1)
+            → WantsMemory self.new.commands.items self.new.replies.items }
         ensures err { result ≢ Err stop.Full }
     {
         self.note(command)
     }
 
-    /// Carries out a command, and notes it and its reply.
+    /// Carries out a command, and records it with its reply.
     fn note(&mut self, command: PoolCommand) -> Result<Outcome, Stop>
         ensures hub { IsSameHub self.old self.new }
         ensures live { self.new.live ≡ self.old.live }

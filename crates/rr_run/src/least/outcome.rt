@@ -1,11 +1,10 @@
-//! What came of a command.
+//! Outcomes of commands.
 ghost use Rattle.std.specs.Prelude.{◌≡◌};
 ghost use Rattle.rr_run.specs.Filled.{outcome_of};
 
-use rr_commands::Reply;
-use rr_protocol::{LoanError, RequestSendError, SendError};
+use rr_protocol::{LoanError, Reply, RequestSendError, SendError};
 
-/// What came of a command of a list that fills a pool.
+/// The outcome of a command in a list that fills a pool.
 #[derive(Clone, Copy, Debug, PartialEq, Eq)]
 pub(crate) enum Outcome {
     /// A port was created under this number.
@@ -20,11 +19,11 @@ pub(crate) enum Outcome {
     Done,
     /// The client's pool is full.
     Full,
-    /// Anything else.
+    /// Any other reply.
     Other,
 }
 
-/// Returns what a reply tells.
+/// Returns the outcome that a reply reports.
 pub(crate) fn outcome_of(reply: &Reply<u64, u64>) -> Outcome
     ensures { result ≡ outcome_of reply.now }
 {

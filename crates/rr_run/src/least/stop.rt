@@ -6,7 +6,7 @@ use std::alloc::AllocError;
 pub(crate) enum Stop {
     /// The client's pool is full.
     Full,
-    /// No memory was found, or no number is left.
+    /// There was no memory, or no number is left.
     NoMemory,
 }
 

@@ -8,11 +8,11 @@ use crate::sender::Sender;
 use rr_slots::Body;
 
 impl<B: Body, N: Copy, H: Drop> Sender<B, N, H> {
-    /// Enters a slot that a handle holds at the end of a queue, of which the capacity is not zero. A full queue gives up its
-    /// oldest entry with `overflow`, and stays as it is without.
+    /// Enters a slot that a handle holds at the end of a queue, of which the capacity is not zero. A full queue gives
+    /// up its oldest entry with `overflow`, and stays as it is without.
     ///
-    /// The new entry holds the slot, and an entry that is given up holds its own no more: with the last use of a slot, what
-    /// stood in it is dropped. After iceoryx2's safe overflow.
+    /// The new entry holds the slot, and a displaced entry gives up its hold; the elements of a slot are dropped with
+    /// its last use. After iceoryx2's safe overflow.
     #[inline(always)]
     pub fn put(&mut self, receiver: usize, channel: usize, slot: usize, overflow: bool)
         requires receiver { receiver < length self.old.queues }
@@ -44,11 +44,11 @@ impl<B: Body, N: Copy, H: Drop> Sender<B, N, H> {
         self.pool.hold(slot);
     }
 
-    /// Makes a handle's hold of a slot the hold of an entry at the end of a queue, of which the capacity is not zero. A full queue
-    /// gives up its oldest entry with `overflow`; without, it stays as it is, and the hold is given back. With the last use of a
-    /// slot, what stood in it is dropped.
+    /// Turns a handle's hold on a slot into the hold of an entry at the end of a queue, whose capacity is not zero.
+    /// With `overflow` a full queue drops its oldest entry; without, it stays as it is, and the hold is given back.
+    /// The elements of a slot are dropped with its last use.
     ///
-    /// Does what `put` and `give_back` do in turn, and writes the slot's holders only if the hold is given back.
+    /// Has the effect of `put` followed by `give_back`, and writes the slot's holders only if the hold is given back.
     #[inline(always)]
     pub fn hand_over(&mut self, receiver: usize, channel: usize, slot: usize, overflow: bool)
         requires receiver { receiver < length self.old.queues }
@@ -69,14 +69,15 @@ impl<B: Body, N: Copy, H: Drop> Sender<B, N, H> {
         }
     }
 
-    /// Makes a handle's hold of a slot the hold of an entry at the end of a queue that is not full.
+    /// Turns a handle's hold on a slot into the hold of an entry at the end of a queue that is not full.
     #[inline(always)]
     fn append(&mut self, receiver: usize, channel: usize, slot: usize)
         requires receiver { receiver < length self.old.queues }
         requires channel { channel < length (slice_index_or self.old.queues receiver []) }
         requires room { length (queue_at self.old receiver channel) < self.old.capacity }
         requires held { 0 < slice_index self.old.held slot }
-        ensures { self.new ≡ with_held (with_queue self.old receiver channel (queue_at self.old receiver channel ++ slot ∷ [])) slot (slice_index self.old.held slot - 1) }
+        ensures { self.new ≡ with_held (with_queue self.old receiver channel
+            (queue_at self.old receiver channel ++ slot ∷ [])) slot (slice_index self.old.held slot - 1) }
     {
         self.links.push(receiver, channel, slot);
     }
@@ -94,7 +95,7 @@ impl<B: Body, N: Copy, H: Drop> Sender<B, N, H> {
 
     /// Takes the oldest entry of a queue that has one, and returns its slot.
     ///
-    /// What held the slot as an entry holds it as a handle from now on, and the receiver has one more from this channel.
+    /// Turns the entry's hold on the slot into a handle's, and increments the receiver's borrows from this channel.
     #[inline(always)]
     pub fn take(&mut self, receiver: usize, channel: usize) -> usize
         requires receiver { receiver < length self.old.queues }
@@ -103,13 +104,14 @@ impl<B: Body, N: Copy, H: Drop> Sender<B, N, H> {
         requires fits { borrowed_at self.old receiver channel + 1 < 2 ^ 64 }
         ensures first { slice_get (queue_at self.old receiver channel) 0 ≡ Some result }
         ensures within { result < length self.old.held }
-        ensures state { self.new ≡ taken self.old receiver channel result (drop 1 (queue_at self.old receiver channel)) }
+        ensures state { self.new ≡ taken self.old receiver channel result
+            (drop 1 (queue_at self.old receiver channel)) }
     {
         self.links.take(receiver, channel)
     }
 
-    /// Drops the oldest entry of a queue, which holds its slot no more; if that was the last use, what stood in the slot is
-    /// dropped. Nothing changes where there is none.
+    /// Drops the oldest entry of a queue and its hold on the slot; if that was the last use, the elements of the slot
+    /// are dropped. Does nothing if the queue is empty.
     #[inline(always)]
     pub fn drop_first(&mut self, receiver: usize, channel: usize)
         requires receiver { receiver < length self.old.queues }
@@ -122,8 +124,8 @@ impl<B: Body, N: Copy, H: Drop> Sender<B, N, H> {
         }
     }
 
-    /// Drops each entry of a queue, one step an entry. None of them holds its slot any more, and what stands in a slot is dropped
-    /// with the last use.
+    /// Drops every entry of a queue and its hold on the slot, in one step per entry. The elements of a slot are
+    /// dropped with its last use.
     #[inline(always)]
     pub fn clear_queue(&mut self, receiver: usize, channel: usize)
         requires receiver { receiver < length self.old.queues }
@@ -136,8 +138,8 @@ impl<B: Body, N: Copy, H: Drop> Sender<B, N, H> {
         }
     }
 
-    /// Drops each entry of each queue to a receiver, one step a channel and an entry. None of them holds its slot any more, and
-    /// what stands in a slot is dropped with the last use.
+    /// Drops every entry of every queue to a receiver and its hold on the slot, in one step per channel and per
+    /// entry. The elements of a slot are dropped with its last use.
     pub fn clear_receiver(&mut self, receiver: usize)
         requires { receiver < length self.old.queues }
         ensures { MessagesDrained (λ r. r == receiver) self.old self.new }
@@ -187,7 +189,7 @@ impl<B: Body, N: Copy, H: Drop> Sender<B, N, H> {
         self.links.len(receiver, channel) > 0
     }
 
-    /// Returns whether some channel to a receiver has an entry. Looks at one channel after another until one has.
+    /// Returns whether some queue to a receiver has an entry. Reads the channels in order up to the first entry.
     #[inline(always)]
     pub fn has_any(&self, receiver: usize) -> bool
         requires { receiver < length self.now.queues }
@@ -206,7 +208,7 @@ impl<B: Body, N: Copy, H: Drop> Sender<B, N, H> {
         self.links.borrowed(receiver, channel)
     }
 
-    /// Returns whether a receiver has a message from some channel that it has not given back. Looks once at each channel.
+    /// Returns whether a receiver has a message that it has not given back. Reads each channel once.
     pub fn has_borrowed(&self, receiver: usize) -> bool
         requires { receiver < length self.now.borrowed }
         ensures { result ≡ list_any (λ n. nat_lt 0 n) (slice_index_or self.now.borrowed receiver []) }
@@ -214,7 +216,7 @@ impl<B: Body, N: Copy, H: Drop> Sender<B, N, H> {
         self.links.has_borrowed(receiver)
     }
 
-    /// A receiver has one less from a channel. Its handle on the slot is given back by `give_back`.
+    /// Decrements a receiver's borrows from a channel. `give_back` gives back its handle on the slot.
     #[inline(always)]
     pub fn end_borrow(&mut self, receiver: usize, channel: usize)
         requires receiver { receiver < length self.old.queues }

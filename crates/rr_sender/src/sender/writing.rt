@@ -1,4 +1,4 @@
-//! Writing what stands in a slot, and its user header.
+//! Writing the body in a slot, and its user header.
 ghost use Rattle.std.specs.Prelude.{◌≡◌, ◌<◌, [], ◌∷◌, Some, length, slice_get, slice_index};
 ghost use Rattle.std.specs.Borrow.{sem};
 ghost use Rattle.rr_slots.specs.Pools.{appended, filled, with_elements};
@@ -20,7 +20,7 @@ impl<B: Body, N: Copy, H: Drop> Sender<B, N, H> {
         &mut head.user_header
     }
 
-    /// Drops the elements in a slot. As many are asked for as before.
+    /// Drops the elements in a slot. The length of its loan stays.
     #[inline(always)]
     pub fn clear(&mut self, slot: usize)
         requires { slot < length self.old.held }
@@ -33,7 +33,7 @@ impl<B: Body, N: Copy, H: Drop> Sender<B, N, H> {
 impl<B: WriteBody, N: Copy, H: Drop> Sender<B, N, H> {
     ghost use Rattle.rr_sender.specs.SenderLends.{lends_element};
 
-    /// Appends an element to what stands in a slot, which is not complete.
+    /// Appends an element to the body in a slot, which is not complete.
     #[inline(always)]
     pub fn push(&mut self, slot: usize, item: B::Item)
         requires { length (content_at self.old slot).elements < (content_at self.old slot).asked_len }
@@ -42,7 +42,7 @@ impl<B: WriteBody, N: Copy, H: Drop> Sender<B, N, H> {
         self.pool.push(slot, item);
     }
 
-    /// Makes an element the only one in a slot, where one is asked for at least. Old ones are dropped.
+    /// Writes an element as the only one in a slot that was loaned for at least one. Old elements are dropped.
     #[inline(always)]
     pub fn write(&mut self, slot: usize, element: B::Item)
         requires slot { slot < length self.old.held }
@@ -63,7 +63,7 @@ impl<B: WriteBody, N: Copy, H: Drop> Sender<B, N, H> {
 }
 
 impl<B: FillBody, N: Copy, H: Drop> Sender<B, N, H> {
-    /// Makes an element each of those that are asked for in a slot. Old ones are dropped.
+    /// Fills the body in a slot with copies of one element. Old elements are dropped.
     pub fn fill(&mut self, slot: usize, element: B::Item)
         requires { slot < length self.old.held }
         ensures { self.new ≡ with_changed_at self.old slot (filled element) }
@@ -71,7 +71,8 @@ impl<B: FillBody, N: Copy, H: Drop> Sender<B, N, H> {
         self.pool.fill(slot, element);
     }
 
-    /// Makes copies of these the elements in a slot, where as many are asked for. Old ones are dropped.
+    /// Copies these elements, which must be as many as were loaned, into the body in a slot. Old elements are
+    /// dropped.
     pub fn copy(&mut self, slot: usize, elements: &[B::Item])
         requires slot { slot < length self.old.held }
         requires len { length elements.now ≡ (content_at self.old slot).asked_len }
@@ -82,7 +83,7 @@ impl<B: FillBody, N: Copy, H: Drop> Sender<B, N, H> {
 }
 
 impl<B: KeepBody, N: Copy, H: Drop> Sender<B, N, H> {
-    /// Makes what stands in a slot complete, by whatever elements: by those that its memory keeps.
+    /// Makes the body in a slot complete with unspecified elements: those that its memory holds.
     pub fn complete(&mut self, slot: usize)
         requires { slot < length self.old.held }
         ensures { CompletesAt self.old slot self.new }
@@ -95,7 +96,7 @@ impl<T: Drop, N: Copy, H: Drop> Sender<Option<T>, N, H> {
     ghost use Rattle.rr_slots.specs.Elements.{option_elements};
     ghost use Rattle.rr_sender.specs.SenderLends.{lends_option};
 
-    /// Lends what stands in a slot for writing, whether an element was written or not.
+    /// Lends the body in a slot for writing, whether an element was written or not.
     pub fn option_mut(&mut self, slot: usize) -> &mut Option<T>
         requires { slot < length self.old.held }
         ensures* lends { sem 𝓛 (lends_option N.row H.row T.row ⟦<Option<T> as Body>⟧ self.entry slot result) }
@@ -104,7 +105,7 @@ impl<T: Drop, N: Copy, H: Drop> Sender<Option<T>, N, H> {
         self.pool.option_mut(slot)
     }
 
-    /// One handle less holds a slot. Returns what stood in it if that was its last use, and else `None`.
+    /// Removes a handle from a slot. Returns the slot's element if that was its last use, and otherwise `None`.
     #[inline(always)]
     pub fn take_back(&mut self, slot: usize) -> Option<T>
         requires { 0 < slice_index self.old.held slot }

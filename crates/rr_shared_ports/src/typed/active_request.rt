@@ -1,21 +1,11 @@
-//! What an active request says, and what is loaned for it and sent, in the typed family.
+//! Queries, loans and sends of an active request, in the typed family.
 ghost use Rattle.std.specs.Prelude.{◌≡◌, ◌∷◌, [], IsSomeAnd, option_and_then, ◌<◌};
 ghost use Rattle.std.specs.Fn.{FnOnceReturnsAt};
-ghost use Rattle.rr_ports.specs.Facts.{Names, Asks, Has, Keeps, numbers_left};
+ghost use Rattle.rr_shared_ports.specs.Words.{Names, Asks, Has, Keeps, numbers_left, IsOneDefault, LoansResponseComplete, SendsResponseCopy, LoansResponse, request_in, empty_hub, handle_at, Answered, MakesCall};
 ghost use Rattle.rr_protocol.specs.declared.kind.Kind.TheVariants as kind;
-ghost use Rattle.rr_ports.specs.Loaning.{IsOneDefault, LoansResponseComplete, SendsResponseCopy};
-ghost use Rattle.rr_protocol.specs.Loans.{LoansResponse};
-ghost use Rattle.rr_protocol.specs.Messages.{request_in};
-ghost use Rattle.rr_protocol.specs.State.{empty_hub, handle_at};
-ghost use Rattle.rr_shared_ports.specs.Turns.{Answered, MakesCall};
-ghost use Rattle.rr_ports.specs.Facts.{numbers_left};
 
-use crate::claimed::Claimed;
-use crate::error::CallError;
-use crate::naming::Naming;
-use crate::seat::Seat;
-use crate::shared_ports::SharedPorts;
 use crate::waking::Change;
+use crate::{CallError, Claimed, Header, Naming, Seat, SharedPorts};
 use rr_ports::{
     ActiveRequest, BackpressureFn, Body, Hub, LoanError, ResponseMut, ResponseMutUninit, SendError,
 };
@@ -23,44 +13,36 @@ use std::sync::Wait;
 
 impl<N: Naming, T: Drop> Claimed<N, ActiveRequest<Option<T>>> {
     /// Returns the payload of the request. Not in iceoryx2, which returns a reference.
-    pub fn payload_copy<
-        R: Wait,
-        QH: Default + Drop,
-        PB: Body,
-        PH: Default + Drop,
-        K: BackpressureFn,
-    >(
+    pub fn payload_copy<QH: Header, PB: Body, PH: Header, K: BackpressureFn>(
         &self,
         hub: &SharedPorts<N, Hub<Option<T>, QH, PB, PH, K>>,
-        rt: &R,
+        rt: &impl Wait,
         seat: &mut Seat<N, Hub<Option<T>, QH, PB, PH, K>>,
     ) -> T
     where
         T: Copy,
-        ensures { MakesCall (empty_hub N.limits N.node_id) (λ before after. (after ≡ before) × IsSomeAnd (option_and_then request_in (handle_at before self.now)) (λ m. m.content.elements ≡ result ∷ [])) seat.old seat.new }
+        ensures { MakesCall (empty_hub N.limits N.node_id)
+            (λ before after. (after ≡ before) × IsSomeAnd (option_and_then request_in (handle_at before self.now))
+            (λ m. m.content.elements ≡ result ∷ [])) seat.old seat.new }
     {
         let handle = self.handle();
         hub.looked(rt, seat, self, |ports| *handle.payload(ports))
     }
 
-    /// Lets a function read the payload of the request in place, under the lock. Not in iceoryx2, which returns a reference.
-    pub fn read<
-        R: Wait,
-        QH: Default + Drop,
-        PB: Body,
-        PH: Default + Drop,
-        K: BackpressureFn,
-        U,
-        F: FnOnce(&T) -> U,
-    >(
+    /// Lets a function read the payload of the request in place, under the lock. Not in iceoryx2, which returns a
+    /// reference.
+    pub fn read<QH: Header, PB: Body, PH: Header, K: BackpressureFn, U, F: FnOnce(&T) -> U>(
         &self,
         hub: &SharedPorts<N, Hub<Option<T>, QH, PB, PH, K>>,
-        rt: &R,
+        rt: &impl Wait,
         seat: &mut Seat<N, Hub<Option<T>, QH, PB, PH, K>>,
         f: F,
     ) -> U
         requires { F.IsAlwaysCallable f }
-        ensures { MakesCall (empty_hub N.limits N.node_id) (λ before after. (after ≡ before) × (value : T) × IsSomeAnd (option_and_then request_in (handle_at before self.now)) (λ m. m.content.elements ≡ value ∷ []) × FnOnceReturnsAt F.FnOnce f value result) seat.old seat.new }
+        ensures { MakesCall (empty_hub N.limits N.node_id)
+            (λ before after. (after ≡ before) × (value : T)
+            × IsSomeAnd (option_and_then request_in (handle_at before self.now))
+            (λ m. m.content.elements ≡ value ∷ []) × FnOnceReturnsAt F.FnOnce f value result) seat.old seat.new }
     {
         let handle = self.handle();
         hub.looked(
@@ -69,7 +51,8 @@ impl<N: Naming, T: Drop> Claimed<N, ActiveRequest<Option<T>>> {
             self,
             |ports| -> U
                 requires { Names ports.now handle.now kind.ActiveRequest × F.IsAlwaysCallable f }
-                ensures { (value : T) × IsSomeAnd (option_and_then request_in (handle_at ports.now handle.entry.now)) (λ m. m.content.elements ≡ value ∷ []) × FnOnceReturnsAt F.FnOnce f value result }
+                ensures { (value : T) × IsSomeAnd (option_and_then request_in (handle_at ports.now handle.entry.now))
+                    (λ m. m.content.elements ≡ value ∷ []) × FnOnceReturnsAt F.FnOnce f value result }
             { f(handle.payload(ports)) },
         )
     }
@@ -82,13 +65,15 @@ impl<N: Naming, QB: Body> Claimed<N, ActiveRequest<QB>> {
     ///
     /// - `Port` as `ActiveRequest::loan_uninit`.
     /// - `NumbersExhausted` if no number is left for the response. Nothing changes.
-    pub fn loan_uninit<R: Wait, QH: Default + Drop, PH: Default + Drop, K: BackpressureFn, T: Drop>(
+    pub fn loan_uninit<QH: Header, PH: Header, K: BackpressureFn, T: Drop>(
         &self,
         hub: &SharedPorts<N, Hub<QB, QH, Option<T>, PH, K>>,
-        rt: &R,
+        rt: &impl Wait,
         seat: &mut Seat<N, Hub<QB, QH, Option<T>, PH, K>>,
     ) -> Result<Claimed<N, ResponseMutUninit<Option<T>>>, CallError<LoanError>>
-        ensures { MakesCall (empty_hub N.limits N.node_id) (Answered numbers_left (λ loaned before after. LoansResponse PH.is_default before self.now 1 loaned after) result) seat.old seat.new }
+        ensures { MakesCall (empty_hub N.limits N.node_id)
+            (Answered numbers_left (λ loaned before after. LoansResponse PH.is_default before self.now 1 loaned after)
+            result) seat.old seat.new }
     {
         let handle = self.handle();
         hub.made(rt, seat, self, &[], |ports| handle.loan_uninit(ports))
@@ -100,19 +85,16 @@ impl<N: Naming, QB: Body> Claimed<N, ActiveRequest<QB>> {
     ///
     /// - `Port` as `ActiveRequest::loan`.
     /// - `NumbersExhausted` if no number is left for the response. Nothing changes.
-    pub fn loan<
-        R: Wait,
-        QH: Default + Drop,
-        PH: Default + Drop,
-        K: BackpressureFn,
-        T: Default + Drop,
-    >(
+    pub fn loan<QH: Header, PH: Header, K: BackpressureFn, T: Default + Drop>(
         &self,
         hub: &SharedPorts<N, Hub<QB, QH, Option<T>, PH, K>>,
-        rt: &R,
+        rt: &impl Wait,
         seat: &mut Seat<N, Hub<QB, QH, Option<T>, PH, K>>,
     ) -> Result<Claimed<N, ResponseMut<Option<T>>>, CallError<LoanError>>
-        ensures { MakesCall (empty_hub N.limits N.node_id) (Answered numbers_left (λ loaned before after. LoansResponseComplete PH.is_default (IsOneDefault T.is_default) before self.now 1 loaned after) result) seat.old seat.new }
+        ensures { MakesCall (empty_hub N.limits N.node_id)
+            (Answered numbers_left (λ loaned before after.
+            LoansResponseComplete PH.is_default (IsOneDefault T.is_default) before self.now 1 loaned after) result)
+            seat.old seat.new }
     {
         let handle = self.handle();
         hub.made(rt, seat, self, &[], |ports| handle.loan(ports))
@@ -124,14 +106,16 @@ impl<N: Naming, QB: Body> Claimed<N, ActiveRequest<QB>> {
     ///
     /// - `Port` as `ActiveRequest::send_copy`.
     /// - `NumbersExhausted` if no number is left for the response. Nothing changes, and the value is dropped.
-    pub fn send_copy<R: Wait, QH: Default + Drop, PH: Default + Drop, K: BackpressureFn, T: Drop>(
+    pub fn send_copy<QH: Header, PH: Header, K: BackpressureFn, T: Drop>(
         &self,
         hub: &SharedPorts<N, Hub<QB, QH, Option<T>, PH, K>>,
-        rt: &R,
+        rt: &impl Wait,
         seat: &mut Seat<N, Hub<QB, QH, Option<T>, PH, K>>,
         value: T,
     ) -> Result<(), CallError<SendError>>
-        ensures { MakesCall (empty_hub N.limits N.node_id) (Answered numbers_left (λ sent before after. SendsResponseCopy PH.is_default K.action before self.now value sent after) result) seat.old seat.new }
+        ensures { MakesCall (empty_hub N.limits N.node_id)
+            (Answered numbers_left (λ sent before after.
+            SendsResponseCopy PH.is_default K.action before self.now value sent after) result) seat.old seat.new }
     {
         let handle = self.handle();
         hub.numbered(
@@ -145,29 +129,25 @@ impl<N: Naming, QB: Body> Claimed<N, ActiveRequest<QB>> {
 }
 
 impl<N: Naming, T: Drop> Claimed<N, ActiveRequest<Option<T>>> {
-    /// Answers with what a function returns for the request's payload, which is lent to it under the lock. After
+    /// Answers with the function's result for the request's payload, computed under the lock. After
     /// `ActiveRequest::respond_with` of `rr_ports`.
     ///
     /// # Errors
     ///
     /// - `Port` as `ActiveRequest::respond_with`.
     /// - `NumbersExhausted` if no number is left for the response. Nothing changes.
-    pub fn respond_with<
-        R: Wait,
-        QH: Default + Drop,
-        PH: Default + Drop,
-        K: BackpressureFn,
-        U: Drop,
-        F: FnOnce(&T) -> U,
-    >(
+    pub fn respond_with<QH: Header, PH: Header, K: BackpressureFn, U: Drop, F: FnOnce(&T) -> U>(
         &self,
         hub: &SharedPorts<N, Hub<Option<T>, QH, Option<U>, PH, K>>,
-        rt: &R,
+        rt: &impl Wait,
         seat: &mut Seat<N, Hub<Option<T>, QH, Option<U>, PH, K>>,
         f: F,
     ) -> Result<(), CallError<SendError>>
         requires { F.IsAlwaysCallable f }
-        ensures { MakesCall (empty_hub N.limits N.node_id) (Answered numbers_left (λ sent before after. (asked : T) × (value : U) × Has before self.now (Asks (asked ∷ [])) × FnOnceReturnsAt F.FnOnce f asked value × SendsResponseCopy PH.is_default K.action before self.now value sent after) result) seat.old seat.new }
+        ensures { MakesCall (empty_hub N.limits N.node_id)
+            (Answered numbers_left (λ sent before after. (asked : T) × (value : U)
+            × Has before self.now (Asks (asked ∷ [])) × FnOnceReturnsAt F.FnOnce f asked value
+            × SendsResponseCopy PH.is_default K.action before self.now value sent after) result) seat.old seat.new }
     {
         let handle = self.handle();
         hub.numbered(
@@ -179,7 +159,9 @@ impl<N: Naming, T: Drop> Claimed<N, ActiveRequest<Option<T>>> {
                 requires kind { Names ports.old handle.now kind.ActiveRequest }
                 requires number { 0 < numbers_left ports.old }
                 requires callable { F.IsAlwaysCallable f }
-                ensures call { (asked : T) × (value : U) × Has ports.old handle.entry.now (Asks (asked ∷ [])) × FnOnceReturnsAt F.FnOnce f asked value × SendsResponseCopy PH.is_default K.action ports.old handle.entry.now value result ports.new }
+                ensures call { (asked : T) × (value : U) × Has ports.old handle.entry.now (Asks (asked ∷ []))
+                    × FnOnceReturnsAt F.FnOnce f asked value
+                    × SendsResponseCopy PH.is_default K.action ports.old handle.entry.now value result ports.new }
                 ensures keeps { Keeps [] ports.old ports.new }
             { handle.respond_with(ports, f) },
         )

@@ -1,17 +1,8 @@
-//! What a client of the typed family loans and sends.
-ghost use Rattle.rr_ports.specs.Loaning.{IsOneDefault, LoansComplete, SendsCopy};
-ghost use Rattle.rr_ports.specs.Shortcuts.{TellsCopy};
-ghost use Rattle.rr_protocol.specs.Loans.{LoansRequest};
-ghost use Rattle.rr_protocol.specs.State.{empty_hub};
-ghost use Rattle.rr_shared_ports.specs.Turns.{Answered, MakesCall};
-ghost use Rattle.rr_ports.specs.Facts.{numbers_left};
+//! Loans and sends of a client, in the typed family.
+ghost use Rattle.rr_shared_ports.specs.Words.{IsOneDefault, LoansComplete, SendsCopy, TellsCopy, LoansRequest, empty_hub, Answered, MakesCall, numbers_left};
 
-use crate::claimed::Claimed;
-use crate::error::CallError;
-use crate::naming::Naming;
-use crate::seat::Seat;
-use crate::shared_ports::SharedPorts;
 use crate::waking::Change;
+use crate::{CallError, Claimed, Header, Naming, Seat, SharedPorts};
 use rr_ports::{
     BackpressureFn, Body, Client, Hub, LoanError, PendingResponse, RequestMut, RequestMutUninit,
     RequestSendError,
@@ -25,19 +16,15 @@ impl<N: Naming, T: Drop> Claimed<N, Client<Option<T>>> {
     ///
     /// - `Port` as `Client::loan_uninit`.
     /// - `NumbersExhausted` if no number is left for the request. Nothing changes.
-    pub fn loan_uninit<
-        R: Wait,
-        QH: Default + Drop,
-        PB: Body,
-        PH: Default + Drop,
-        K: BackpressureFn,
-    >(
+    pub fn loan_uninit<QH: Header, PB: Body, PH: Header, K: BackpressureFn>(
         &self,
         hub: &SharedPorts<N, Hub<Option<T>, QH, PB, PH, K>>,
-        rt: &R,
+        rt: &impl Wait,
         seat: &mut Seat<N, Hub<Option<T>, QH, PB, PH, K>>,
     ) -> Result<Claimed<N, RequestMutUninit<Option<T>>>, CallError<LoanError>>
-        ensures { MakesCall (empty_hub N.limits N.node_id) (Answered numbers_left (λ loaned before after. LoansRequest QH.is_default before self.now 1 loaned after) result) seat.old seat.new }
+        ensures { MakesCall (empty_hub N.limits N.node_id)
+            (Answered numbers_left (λ loaned before after. LoansRequest QH.is_default before self.now 1 loaned after)
+            result) seat.old seat.new }
     {
         let handle = self.handle();
         hub.made(rt, seat, self, &[], |ports| handle.loan_uninit(ports))
@@ -49,15 +36,18 @@ impl<N: Naming, T: Drop> Claimed<N, Client<Option<T>>> {
     ///
     /// - `Port` as `Client::loan`.
     /// - `NumbersExhausted` if no number is left for the request. Nothing changes.
-    pub fn loan<R: Wait, QH: Default + Drop, PB: Body, PH: Default + Drop, K: BackpressureFn>(
+    pub fn loan<QH: Header, PB: Body, PH: Header, K: BackpressureFn>(
         &self,
         hub: &SharedPorts<N, Hub<Option<T>, QH, PB, PH, K>>,
-        rt: &R,
+        rt: &impl Wait,
         seat: &mut Seat<N, Hub<Option<T>, QH, PB, PH, K>>,
     ) -> Result<Claimed<N, RequestMut<Option<T>>>, CallError<LoanError>>
     where
         T: Default,
-        ensures { MakesCall (empty_hub N.limits N.node_id) (Answered numbers_left (λ loaned before after. LoansComplete QH.is_default (IsOneDefault T.is_default) before self.now 1 loaned after) result) seat.old seat.new }
+        ensures { MakesCall (empty_hub N.limits N.node_id)
+            (Answered numbers_left (λ loaned before after.
+            LoansComplete QH.is_default (IsOneDefault T.is_default) before self.now 1 loaned after) result) seat.old
+            seat.new }
     {
         let handle = self.handle();
         hub.made(rt, seat, self, &[], |ports| handle.loan(ports))
@@ -69,14 +59,16 @@ impl<N: Naming, T: Drop> Claimed<N, Client<Option<T>>> {
     ///
     /// - `Port` as `Client::send_copy`.
     /// - `NumbersExhausted` if no number is left for the request. Nothing changes, and the value is dropped.
-    pub fn send_copy<R: Wait, QH: Default + Drop, PB: Body, PH: Default + Drop, K: BackpressureFn>(
+    pub fn send_copy<QH: Header, PB: Body, PH: Header, K: BackpressureFn>(
         &self,
         hub: &SharedPorts<N, Hub<Option<T>, QH, PB, PH, K>>,
-        rt: &R,
+        rt: &impl Wait,
         seat: &mut Seat<N, Hub<Option<T>, QH, PB, PH, K>>,
         value: T,
     ) -> Result<Claimed<N, PendingResponse<Option<T>>>, CallError<RequestSendError>>
-        ensures { MakesCall (empty_hub N.limits N.node_id) (Answered numbers_left (λ sent before after. SendsCopy QH.is_default K.action before self.now value sent after) result) seat.old seat.new }
+        ensures { MakesCall (empty_hub N.limits N.node_id)
+            (Answered numbers_left (λ sent before after.
+            SendsCopy QH.is_default K.action before self.now value sent after) result) seat.old seat.new }
     {
         let handle = self.handle();
         hub.made(
@@ -94,14 +86,16 @@ impl<N: Naming, T: Drop> Claimed<N, Client<Option<T>>> {
     ///
     /// - `Port` as `Client::tell`.
     /// - `NumbersExhausted` if no number is left for the request. Nothing changes, and the value is dropped.
-    pub fn tell<R: Wait, QH: Default + Drop, PB: Body, PH: Default + Drop, K: BackpressureFn>(
+    pub fn tell<QH: Header, PB: Body, PH: Header, K: BackpressureFn>(
         &self,
         hub: &SharedPorts<N, Hub<Option<T>, QH, PB, PH, K>>,
-        rt: &R,
+        rt: &impl Wait,
         seat: &mut Seat<N, Hub<Option<T>, QH, PB, PH, K>>,
         value: T,
     ) -> Result<(), CallError<RequestSendError>>
-        ensures { MakesCall (empty_hub N.limits N.node_id) (Answered numbers_left (λ told before after. TellsCopy QH.is_default K.action before self.now value told after) result) seat.old seat.new }
+        ensures { MakesCall (empty_hub N.limits N.node_id)
+            (Answered numbers_left (λ told before after.
+            TellsCopy QH.is_default K.action before self.now value told after) result) seat.old seat.new }
     {
         let handle = self.handle();
         hub.numbered(

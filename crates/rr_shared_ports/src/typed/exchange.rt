@@ -1,22 +1,18 @@
-//! Questions and answers in few critical sections.
+//! Whole exchanges in few critical sections.
 #![tactic(auto, using(rr_ports::proofs::Frames::callers), unfolding(rr_ports::specs::Facts::Keeps, rr_ports::specs::Facts::IsFree))]
 
 ghost use Rattle.std.specs.Prelude.{◌≡◌, ◌∷◌, [], IfErr};
 ghost use mathlib.Core.List.{IsPrefix};
-ghost use Rattle.rr_ports.specs.Facts.{Keeps, Names};
+ghost use Rattle.rr_shared_ports.specs.Words.{Keeps, Names, empty_hub, AnswersWith, FindsOver, Finishes, FinishesLast, IsWhyNone, Questions, Responds, Serves, MakesCall, IsOver};
 ghost use Rattle.rr_protocol.specs.declared.kind.Kind.TheVariants as kind;
-ghost use Rattle.rr_protocol.specs.State.{empty_hub};
-ghost use Rattle.rr_shared_ports.specs.Exchanges.{AnswersWith, FindsOver, Finishes, FinishesLast, IsWhyNone, Questions, Responds, Serves};
-ghost use Rattle.rr_shared_ports.specs.Turns.{MakesCall};
-ghost use Rattle.rr_shared_ports.specs.Waits.{IsOver};
 
-use crate::claimed::Claimed;
 use crate::deadline::Never;
-use crate::error::{AskError, CallError, FinishError, ServeError, WaitError, told};
-use crate::naming::Naming;
-use crate::seat::Seat;
-use crate::shared_ports::SharedPorts;
+use crate::error::told;
 use crate::waking::Change;
+use crate::{
+    AskError, CallError, Claimed, FinishError, Header, Naming, Seat, ServeError, SharedPorts,
+    WaitError,
+};
 use rr_ports::{
     ActiveRequest, BackpressureFn, Body, Client, Hub, PendingResponse, Refused, SendError, Server,
 };
@@ -24,28 +20,22 @@ use std::sync::Wait;
 use std::time::Duration;
 
 impl<N: Naming, T: Drop> Claimed<N, ActiveRequest<Option<T>>> {
-    /// Answers with what a function returns for the request's payload, as `respond_with` does, and releases the request: both under one
-    /// lock. Not in iceoryx2.
+    /// Answers with the function's result for the request's payload, as `respond_with` does, and releases the
+    /// request, both in one critical section. Not in iceoryx2.
     ///
     /// # Errors
     ///
     /// As `respond_with`. The request is released.
-    pub fn answer_with<
-        R: Wait,
-        QH: Default + Drop,
-        PH: Default + Drop,
-        K: BackpressureFn,
-        U: Drop,
-        F: FnOnce(&T) -> U,
-    >(
+    pub fn answer_with<QH: Header, PH: Header, K: BackpressureFn, U: Drop, F: FnOnce(&T) -> U>(
         self,
         hub: &SharedPorts<N, Hub<Option<T>, QH, Option<U>, PH, K>>,
-        rt: &R,
+        rt: &impl Wait,
         seat: &mut Seat<N, Hub<Option<T>, QH, Option<U>, PH, K>>,
         f: F,
     ) -> Result<(), CallError<SendError>>
         requires { F.IsAlwaysCallable f }
-        ensures { MakesCall (empty_hub N.limits N.node_id) (λ before after. AnswersWith PH.is_default K.action F.FnOnce f before self result after) seat.old seat.new }
+        ensures { MakesCall (empty_hub N.limits N.node_id)
+            (λ before after. AnswersWith PH.is_default K.action F.FnOnce f before self result after) seat.old seat.new }
     {
         hub.ended(
             rt,
@@ -71,22 +61,24 @@ impl<N: Naming, T: Drop> Claimed<N, ActiveRequest<Option<T>>> {
 }
 
 impl<N: Naming, QB: Body> Claimed<N, PendingResponse<QB>> {
-    /// Receives the value of a response, as `receive_copy` does, and releases the request: both under one lock. Not in iceoryx2.
+    /// Receives the value of a response, as `receive_copy` does, and releases the request, both in one critical
+    /// section. Not in iceoryx2.
     ///
     /// # Errors
     ///
     /// `message` is the request. `error` is
     ///
-    /// - `NoResponse` if none is queued, and a connected server may answer yet.
-    /// - `NoServer` if none is queued, and no connected server may answer any more.
+    /// - `NoResponse` if none is queued, but a connected server may still answer.
+    /// - `NoServer` if none is queued, and no connected server may still answer.
     /// - `Receive` as `receive_copy`.
-    pub fn finish<R: Wait, QH: Default + Drop, PH: Default + Drop, K: BackpressureFn, T: Copy>(
+    pub fn finish<QH: Header, PH: Header, K: BackpressureFn, T: Copy>(
         self,
         hub: &SharedPorts<N, Hub<QB, QH, Option<T>, PH, K>>,
-        rt: &R,
+        rt: &impl Wait,
         seat: &mut Seat<N, Hub<QB, QH, Option<T>, PH, K>>,
     ) -> Result<T, Refused<Claimed<N, PendingResponse<QB>>, FinishError>>
-        ensures { MakesCall (empty_hub N.limits N.node_id) (λ before after. Finishes before self result after) seat.old seat.new }
+        ensures { MakesCall (empty_hub N.limits N.node_id) (λ before after. Finishes before self result after)
+            seat.old seat.new }
     {
         hub.spent(
             rt,
@@ -97,7 +89,8 @@ impl<N: Naming, QB: Body> Claimed<N, PendingResponse<QB>> {
                 requires { Names ports.old pending kind.PendingResponse }
                 ensures call { Finishes ports.old pending result ports.new }
                 ensures keeps { Keeps (pending ∷ []) ports.old ports.new }
-                ensures kept { IfErr result (λ refused. (refused.message ≡ pending) × Names ports.new pending kind.PendingResponse) }
+                ensures kept { IfErr result (λ refused. (refused.message ≡ pending)
+                    × Names ports.new pending kind.PendingResponse) }
             {
                 let error = match pending.receive_copy(ports) {
                     Ok(Some(value)) => {
@@ -115,11 +108,12 @@ impl<N: Naming, QB: Body> Claimed<N, PendingResponse<QB>> {
         )
     }
 
-    /// Finishes the request as soon as a response comes. `turns` is how often those who wait for responses had been woken before it was sent.
-    fn finish_since<R: Wait, QH: Default + Drop, PH: Default + Drop, K: BackpressureFn, T: Copy>(
+    /// Waits for a response and finishes the request. `turns` is the wake-up count of the waiters for responses, read
+    /// before the request was sent.
+    fn finish_since<QH: Header, PH: Header, K: BackpressureFn, T: Copy>(
         self,
         hub: &SharedPorts<N, Hub<QB, QH, Option<T>, PH, K>>,
-        rt: &R,
+        rt: &impl Wait,
         seat: &mut Seat<N, Hub<QB, QH, Option<T>, PH, K>>,
         turns: u64,
     ) -> Result<T, WaitError<FinishError>>
@@ -151,27 +145,28 @@ impl<N: Naming, QB: Body> Claimed<N, PendingResponse<QB>> {
 }
 
 impl<N: Naming, T: Drop> Claimed<N, Client<Option<T>>> {
-    /// Sends a value, waits for a response, returns its value and releases the request. Takes the lock twice where the response is there
-    /// when it looks. Not in iceoryx2: `send_copy`, `receive`, and two drops.
+    /// Sends a value, waits for a response, returns its value and releases the request. Takes the lock twice if the
+    /// response is queued at its first poll. Not in iceoryx2: `send_copy`, `receive`, and two drops.
     ///
     /// # Errors
     ///
     /// - `Send` as `send_copy`.
-    /// - `Finish(Call(NoServer))` if no connected server may answer any more.
+    /// - `Finish(Call(NoServer))` if no connected server may still answer.
     /// - `Finish(Closed)` if `close` was called, and no response is queued.
     /// - `Finish(Call(Receive(..)))` as `receive_copy`.
     ///
     /// The request is released.
-    pub fn call<R: Wait, QH: Default + Drop, PH: Default + Drop, K: BackpressureFn, U: Copy>(
+    pub fn call<QH: Header, PH: Header, K: BackpressureFn, U: Copy>(
         &self,
         hub: &SharedPorts<N, Hub<Option<T>, QH, Option<U>, PH, K>>,
-        rt: &R,
+        rt: &impl Wait,
         seat: &mut Seat<N, Hub<Option<T>, QH, Option<U>, PH, K>>,
         value: T,
     ) -> Result<U, AskError>
         ensures same { seat.new.0 ≡ seat.old.0 }
         ensures seen { IsPrefix seat.old.1 seat.new.1 }
-        ensures call { Questions (empty_hub N.limits N.node_id) QH.is_default K.action self.now value result seat.old seat.new }
+        ensures call { Questions (empty_hub N.limits N.node_id) QH.is_default K.action self.now value result seat.old
+            seat.new }
     {
         let responses = &hub.waking.responses;
         let _waiter = responses.enter();
@@ -188,31 +183,25 @@ impl<N: Naming, T: Drop> Claimed<N, Client<Option<T>>> {
 }
 
 impl<N: Naming, U: Drop> Claimed<N, Server<Option<U>>> {
-    /// Waits for a request, and answers it with what a function returns for its payload, which is lent to it under the lock. Not in
-    /// iceoryx2: `receive`, `send_copy` and a drop.
+    /// Waits for a request, and answers it with the function's result for its payload, computed under the lock. Not
+    /// in iceoryx2: `receive`, `send_copy` and a drop.
     ///
     /// # Errors
     ///
     /// - `Receive` as `receive_wait`.
     /// - `Send` as `respond_with`. The request is released.
-    pub fn serve<
-        R: Wait,
-        T: Drop,
-        QH: Default + Drop,
-        PH: Default + Drop,
-        K: BackpressureFn,
-        F: FnOnce(&T) -> U,
-    >(
+    pub fn serve<T: Drop, QH: Header, PH: Header, K: BackpressureFn, F: FnOnce(&T) -> U>(
         &self,
         hub: &SharedPorts<N, Hub<Option<T>, QH, Option<U>, PH, K>>,
-        rt: &R,
+        rt: &impl Wait,
         seat: &mut Seat<N, Hub<Option<T>, QH, Option<U>, PH, K>>,
         f: F,
     ) -> Result<(), ServeError>
         requires { F.IsAlwaysCallable f }
         ensures same { seat.new.0 ≡ seat.old.0 }
         ensures seen { IsPrefix seat.old.1 seat.new.1 }
-        ensures call { Serves (empty_hub N.limits N.node_id) PH.is_default K.action F.FnOnce f self.now result seat.old seat.new }
+        ensures call { Serves (empty_hub N.limits N.node_id) PH.is_default K.action F.FnOnce f self.now result
+            seat.old seat.new }
     {
         let active = match self.receive_wait(hub, rt, seat) {
             Ok(active) => active,
@@ -225,12 +214,12 @@ impl<N: Naming, U: Drop> Claimed<N, Server<Option<U>>> {
     }
 }
 
-/// Answers a request with what a function returns for its payload, if a number is left.
+/// Answers a request with the function's result for its payload, if a number is left.
 fn respond_if_numbered<
     T: Drop,
-    QH: Default + Drop,
+    QH: Header,
     U: Drop,
-    PH: Default + Drop,
+    PH: Header,
     K: BackpressureFn,
     F: FnOnce(&T) -> U,
 >(
@@ -249,8 +238,8 @@ fn respond_if_numbered<
     told(active.respond_with(ports, f))
 }
 
-/// Tells why a request has no response.
-fn why_none<QB: Body, QH: Default + Drop, PB: Body, PH: Default + Drop, K: BackpressureFn>(
+/// Returns why no response is queued for a request.
+fn why_none<QB: Body, QH: Header, PB: Body, PH: Header, K: BackpressureFn>(
     pending: &PendingResponse<QB>,
     ports: &Hub<QB, QH, PB, PH, K>,
 ) -> FinishError
@@ -264,7 +253,7 @@ fn why_none<QB: Body, QH: Default + Drop, PB: Body, PH: Default + Drop, K: Backp
     }
 }
 
-/// Returns how long a wait goes on that found no response, or why it is over.
+/// Returns how long a wait that found no response may sleep, or why it is over.
 fn after(
     error: FinishError,
     pause: Result<Duration, WaitError<FinishError>>,

@@ -1,4 +1,4 @@
-//! Writing what stands in a slot.
+//! Writing the body in a slot.
 ghost use Rattle.std.specs.Prelude.{◌≡◌, ◌<◌, [], ◌∷◌, length, slice_get, slice_index, Some};
 ghost use Rattle.std.specs.Borrow.{sem, Lends};
 ghost use Rattle.rr_slots.specs.Pools.{CompletesAt, content_at, appended, filled, given_back, with_changed_at, with_elements};
@@ -7,7 +7,7 @@ use crate::body::{Body, FillBody, KeepBody, LendBody, WriteBody};
 use crate::pool::Pool;
 
 impl<B: Body> Pool<B> {
-    /// Drops the elements in a slot. As many are asked for as before.
+    /// Drops the elements in a slot. The length of its loan stays.
     #[inline(always)]
     pub fn clear(&mut self, slot: usize)
         requires { slot < length self.old.contents }
@@ -21,7 +21,7 @@ impl<B: Body> Pool<B> {
 impl<B: WriteBody> Pool<B> {
     ghost use Rattle.rr_slots.specs.PoolLends.{lends_element};
 
-    /// Appends an element to what stands in a slot, which is not complete.
+    /// Appends an element to the body in a slot, which is not complete.
     #[inline(always)]
     pub fn push(&mut self, slot: usize, item: B::Item)
         requires { length (content_at self.old slot).elements < (content_at self.old slot).asked_len }
@@ -31,7 +31,7 @@ impl<B: WriteBody> Pool<B> {
         body.push(item);
     }
 
-    /// Makes an element the only one in a slot, where one is asked for at least. Old ones are dropped.
+    /// Writes an element as the only one in a slot that was loaned for at least one. Old elements are dropped.
     #[inline(always)]
     pub fn write(&mut self, slot: usize, element: B::Item)
         requires slot { slot < length self.old.contents }
@@ -55,7 +55,7 @@ impl<B: WriteBody> Pool<B> {
 }
 
 impl<B: FillBody> Pool<B> {
-    /// Makes an element each of those that are asked for in a slot. Old ones are dropped.
+    /// Fills the body in a slot with copies of one element. Old elements are dropped.
     pub fn fill(&mut self, slot: usize, element: B::Item)
         requires { slot < length self.old.contents }
         ensures { self.new ≡ with_changed_at self.old slot (filled element) }
@@ -64,7 +64,8 @@ impl<B: FillBody> Pool<B> {
         whole.fill(element);
     }
 
-    /// Makes copies of these the elements in a slot, where as many are asked for. Old ones are dropped.
+    /// Copies these elements, which must be as many as were loaned, into the body in a slot. Old elements are
+    /// dropped.
     pub fn copy(&mut self, slot: usize, elements: &[B::Item])
         requires slot { slot < length self.old.contents }
         requires len { length elements.now ≡ (content_at self.old slot).asked_len }
@@ -76,7 +77,7 @@ impl<B: FillBody> Pool<B> {
 }
 
 impl<B: KeepBody> Pool<B> {
-    /// Makes what stands in a slot complete, by whatever elements: by those that its memory keeps.
+    /// Makes the body in a slot complete with unspecified elements: those that its memory holds.
     pub fn complete(&mut self, slot: usize)
         requires { slot < length self.old.contents }
         ensures { CompletesAt self.old slot self.new }
@@ -90,7 +91,7 @@ impl<T: Drop> Pool<Option<T>> {
     ghost use Rattle.rr_slots.specs.Elements.{option_elements};
     ghost use Rattle.rr_slots.specs.PoolLends.{lends_option};
 
-    /// Lends what stands in a slot for writing, whether an element was written or not.
+    /// Lends the body in a slot for writing, whether an element was written or not.
     pub fn option_mut(&mut self, slot: usize) -> &mut Option<T>
         requires { slot < length self.old.contents }
         ensures* lends { sem 𝓛 (lends_option T.row ⟦<Option<T> as Body>⟧ self.entry slot result) }
@@ -99,12 +100,13 @@ impl<T: Drop> Pool<Option<T>> {
         &mut self.bodies[slot]
     }
 
-    /// Gives back a hold on a slot, and returns what stood in it if nobody holds it any more. Else returns `None`.
+    /// Removes a holder from a slot, and returns the element if it was the last one. Otherwise returns `None`.
     #[inline(always)]
     pub fn take_back(&mut self, slot: usize) -> Option<T>
         requires { 0 < slice_index self.old.holders slot }
         ensures given { self.new ≡ given_back self.old slot }
-        ensures taken { slice_index self.old.holders slot ≡ 1 → option_elements result ≡ (content_at self.old slot).elements }
+        ensures taken { slice_index self.old.holders slot ≡ 1
+            → option_elements result ≡ (content_at self.old slot).elements }
     {
         if self.holders.give_back(slot) {
             let body = &mut self.bodies[slot];

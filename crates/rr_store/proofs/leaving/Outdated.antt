@@ -8,7 +8,7 @@ use Rattle.std.proofs.lemmas.List.Elements.{filter_more}
 use Rattle.std.proofs.lemmas.List.Filters.{length-filter_more}
 use Rattle.std.proofs.lemmas.List.Folds.{list_any-append}
 use Rattle.std.proofs.lemmas.Option.{get_or_from_slice_get, slice_get-get_or, slice_get_within}
-use Rattle.rr_map_laws.proofs.ListFacts.{all_filter}
+use Rattle.rr_table.proofs.ListFacts.{all_filter}
 use Rattle.rr_store.specs.declared.port.LeftPort.{LeftPort}
 use Rattle.rr_store.specs.Draining.{AreApart, AreThere, HaveQueues, SendersDrained}
 use Rattle.rr_store.specs.Leaving.{has_queued, is_of, queued_left}

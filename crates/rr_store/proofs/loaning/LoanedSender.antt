@@ -3,7 +3,7 @@ use Rattle.std.proofs.Common.{◌≡◌, ◌<◌, ◌+◌, ℕ, false, true, Lis
 use Rattle.std.specs.Prelude.{◌==◌, ◌&&◌, slice_index, slice_set}
 use Rattle.std.proofs.lemmas.Bool.{cases_eq, eq-eqb, ne_eqb}
 use Rattle.std.proofs.lemmas.List.{get_or-set_same, get_or-set_other}
-use Rattle.rr_map_laws.specs.Maps.{mark}
+use Rattle.rr_table.specs.Maps.{mark}
 use Rattle.rr_store.specs.Parts.{Sender}
 use Rattle.rr_store.specs.Views.{no_sender, sender_of}
 

@@ -4,7 +4,7 @@ use Rattle.std.specs.Prelude.{slice_index_or, slice_set}
 use Rattle.std.proofs.lemmas.Bool.{cases_lt, lt-ltb}
 use Rattle.std.proofs.lemmas.List.{length-set}
 use Rattle.std.proofs.lemmas.Option.{get_or_from_slice_get, slice_get-get_or, slice_get_within}
-use Rattle.rr_map_laws.proofs.Members.{any_there}
+use Rattle.rr_table.proofs.Members.{any_there}
 use Rattle.rr_sender.specs.Senders.{Messages, emptied_among, queue_at, queue_cleared, with_queue}
 use Rattle.rr_sender.proofs.EmptiedLaws.{emptied_among-none}
 use Rattle.rr_sender.proofs.EntryLaws.{length-set_two, set_two-itself}

@@ -6,8 +6,8 @@ use Rattle.std.specs.FinMap as fin_map
 use Rattle.std.proofs.lemmas.Bool.{eq-eqb}
 use Rattle.std.proofs.lemmas.Option.{slice_get-get_or}
 use Rattle.rr_table.specs.TableView.{TableEntry, value_at}
-use Rattle.rr_map_laws.specs.Maps.{tally}
-use Rattle.rr_map_laws.proofs.MapLaws.{map_values-but, tally_one}
+use Rattle.rr_table.specs.Maps.{tally}
+use Rattle.rr_table.proofs.MapLaws.{map_values-but, tally_one}
 use Rattle.rr_sender.specs.Senders.{Messages, all_entries, times}
 use Rattle.rr_protocol.specs.Keys.{RequestKey, ResponseKey}
 use Rattle.rr_protocol.specs.Messages.{Content, Handle}

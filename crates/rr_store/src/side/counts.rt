@@ -1,4 +1,4 @@
-//! What a sender counts of its messages, and the marks of those who may answer.
+//! Counts of a sender's messages, and the marks of the servers that may answer.
 ghost use Rattle.std.specs.Prelude.{◌≡◌, ◌+◌, ◌*◌, ◌<◌, ◌^◌, [], IsSomeAnd, length, slice_get, slice_index, slice_index_or, slice_set};
 ghost use Rattle.rr_slots.specs.Elements.{option_elements};
 ghost use Rattle.rr_sender.specs.Senders.{borrowed_at, content_at, uses};
@@ -50,7 +50,7 @@ impl<B: Body, N: Copy, H: Drop, P: Drop> Side<B, N, H, P> {
         self.senders[sender].pendings
     }
 
-    /// Counts one message more on loan from a sender.
+    /// Increments a sender's count of messages on loan.
     #[inline(always)]
     pub fn count_loan(&mut self, sender: usize)
         requires sender { sender < length self.old.senders }
@@ -60,7 +60,7 @@ impl<B: Body, N: Copy, H: Drop, P: Drop> Side<B, N, H, P> {
         self.senders[sender].loans += 1;
     }
 
-    /// Counts one message less on loan from a sender, and returns which receiver its port is.
+    /// Decrements a sender's count of messages on loan, and returns the receiver of its port.
     #[inline(always)]
     pub fn end_loan(&mut self, sender: usize) -> usize
         requires sender { sender < length self.old.senders }
@@ -73,7 +73,7 @@ impl<B: Body, N: Copy, H: Drop, P: Drop> Side<B, N, H, P> {
         lender.receiver
     }
 
-    /// Counts one request less on loan from a sender, and one pending response more.
+    /// Moves a request of a sender from the count of loans to that of pending responses.
     #[inline(always)]
     pub fn count_as_sent(&mut self, sender: usize)
         requires sender { sender < length self.old.senders }
@@ -86,7 +86,7 @@ impl<B: Body, N: Copy, H: Drop, P: Drop> Side<B, N, H, P> {
         owned.pendings += 1;
     }
 
-    /// Counts one pending response less of a sender, and returns which receiver its port is.
+    /// Decrements a sender's count of pending responses, and returns the receiver of its port.
     #[inline(always)]
     pub fn end_pending(&mut self, sender: usize) -> usize
         requires sender { sender < length self.old.senders }
@@ -99,13 +99,15 @@ impl<B: Body, N: Copy, H: Drop, P: Drop> Side<B, N, H, P> {
         owned.receiver
     }
 
-    /// Gives back a hold on a message that was received, and counts one less that its receiver has from the channel. What stands in
-    /// the slot is dropped with the last use.
+    /// Gives back a hold on a message that was received, and decrements the receiver's borrows from the channel. The
+    /// elements are dropped with the last hold.
     #[inline(always)]
     pub fn end_borrow(&mut self, sender: usize, receiver: usize, channel: usize, slot: usize)
         requires sender { sender < length self.old.senders }
-        requires queue { (receiver < length (sender_of sender self.old.senders).messages.queues) × (channel < length (slice_index_or (sender_of sender self.old.senders).messages.queues receiver [])) }
-        requires counted { (0 < borrowed_at (sender_of sender self.old.senders).messages receiver channel) × (0 < slice_index (sender_of sender self.old.senders).messages.held slot) }
+        requires queue { (receiver < length (sender_of sender self.old.senders).messages.queues)
+            × (channel < length (slice_index_or (sender_of sender self.old.senders).messages.queues receiver [])) }
+        requires counted { (0 < borrowed_at (sender_of sender self.old.senders).messages receiver channel)
+            × (0 < slice_index (sender_of sender self.old.senders).messages.held slot) }
         ensures { self.new ≡ with_sent self.old sender (λ m. borrow_given_back m receiver channel slot) }
     {
         let messages = &mut self.senders[sender].messages;
@@ -113,7 +115,7 @@ impl<B: Body, N: Copy, H: Drop, P: Drop> Side<B, N, H, P> {
         messages.give_back(slot);
     }
 
-    /// Notes that a receiver, of so many, may not answer the message in a slot any more.
+    /// Clears the mark by which a receiver, below `receivers`, may answer the message in a slot.
     #[inline(always)]
     pub fn clear_mark(&mut self, sender: usize, slot: usize, receivers: usize, receiver: usize)
         requires sender { sender < length self.old.senders }
@@ -126,8 +128,8 @@ impl<B: Body, N: Copy, H: Drop, P: Drop> Side<B, N, H, P> {
 }
 
 impl<T: Drop, N: Copy, H: Drop, P: Drop> Side<Option<T>, N, H, P> {
-    /// Gives back a hold on a message that was received, and counts one less that its receiver has from the channel. Returns what
-    /// stands in the slot if that was its last use, and else `None`.
+    /// Gives back a hold on a message that was received, and decrements the receiver's borrows from the channel.
+    /// Returns the element of the slot if that was its last hold, and otherwise `None`.
     #[inline(always)]
     pub fn end_borrow_taking(
         &mut self,
@@ -137,10 +139,13 @@ impl<T: Drop, N: Copy, H: Drop, P: Drop> Side<Option<T>, N, H, P> {
         slot: usize,
     ) -> Option<T>
         requires sender { sender < length self.old.senders }
-        requires queue { (receiver < length (sender_of sender self.old.senders).messages.queues) × (channel < length (slice_index_or (sender_of sender self.old.senders).messages.queues receiver [])) }
-        requires counted { (0 < borrowed_at (sender_of sender self.old.senders).messages receiver channel) × (0 < slice_index (sender_of sender self.old.senders).messages.held slot) }
+        requires queue { (receiver < length (sender_of sender self.old.senders).messages.queues)
+            × (channel < length (slice_index_or (sender_of sender self.old.senders).messages.queues receiver [])) }
+        requires counted { (0 < borrowed_at (sender_of sender self.old.senders).messages receiver channel)
+            × (0 < slice_index (sender_of sender self.old.senders).messages.held slot) }
         ensures given { self.new ≡ with_sent self.old sender (λ m. borrow_given_back m receiver channel slot) }
-        ensures taken { uses (sender_of sender self.old.senders).messages slot ≡ 1 → option_elements result ≡ (content_at (sender_of sender self.old.senders).messages slot).elements }
+        ensures taken { uses (sender_of sender self.old.senders).messages slot ≡ 1
+            → option_elements result ≡ (content_at (sender_of sender self.old.senders).messages slot).elements }
     {
         let messages = &mut self.senders[sender].messages;
         messages.end_borrow(receiver, channel);
@@ -149,13 +154,18 @@ impl<T: Drop, N: Copy, H: Drop, P: Drop> Side<Option<T>, N, H, P> {
 }
 
 impl<B: Body, H: Drop, K: Drop> Side<B, RequestDetails, H, ClientPort<K>> {
-    /// Counts one request more on loan from a sender, and one loan more that the client at an index made.
+    /// Increments a sender's count of requests on loan, and the number of loans that the client at `index` has made.
     #[inline(always)]
     pub fn count_request_loan(&mut self, index: usize, sender: usize)
         requires client { IsSomeAnd (slice_get self.old.ports index) (λ c. c.loans_made + 1 < 2 ^ 64) }
         requires sender { sender < length self.old.senders }
         requires fits { (sender_of sender self.old.senders).loans + 1 < 2 ^ 64 }
-        ensures { IsSomeAnd (slice_get self.old.ports index) (λ c. self.new ≡ record self.old { ports = slice_set self.old.ports index (record c { loans_made = c.loans_made + 1 }); senders = with_sender_at self.old.senders sender with_one_loan }) }
+        ensures { IsSomeAnd (slice_get self.old.ports index)
+            (λ c. self.new ≡ record self.old {
+              ports = slice_set self.old.ports index
+                  (record c { loans_made = c.loans_made + 1 });
+              senders = with_sender_at self.old.senders sender with_one_loan;
+            }) }
     {
         self.ports[index].loans_made += 1;
         self.count_loan(sender);

@@ -1,4 +1,4 @@
-//! What changes on either side as a port leaves.
+//! Changes of a side when a port leaves.
 ghost use Rattle.std.specs.Prelude.{◌≡◌, ℕ, ◌+◌, ◌≤◌, ◌==◌, ◌&&◌, ◌<◌, IsSomeAnd, OnOk, Some, length, slice_get, slice_index_or, slice_set, [], map, take, None, true};
 ghost use Rattle.std.specs.List.{list_any};
 ghost use Rattle.rr_store.specs.Creating.{idle_left, is_idle};
@@ -15,8 +15,8 @@ use rr_slots::Body;
 use std::alloc::AllocError;
 
 impl<B: Body, N: Copy, H: Drop, P: Drop> Side<B, N, H, P> {
-    /// Gets room for one more port among those that left, so that it can leave without memory. Returns `AllocError` if memory
-    /// was refused; there is as much room as before then.
+    /// Reserves room for one more port that left, so that it can leave without memory. Returns `AllocError` if memory
+    /// was refused; the room is unchanged then.
     pub fn reserve_left(&mut self) -> Result<(), AllocError>
         ensures rest { self.new ≡ record self.old { room = self.new.room } }
         ensures more { self.old.room ≤ self.new.room }
@@ -25,7 +25,7 @@ impl<B: Body, N: Copy, H: Drop, P: Drop> Side<B, N, H, P> {
         self.left.reserve(self.ports.len() + 1)
     }
 
-    /// Returns which of the ports that left is the first whose sender nothing uses. Looks at each at most once.
+    /// Returns the index of the first port that left whose sender nothing uses. Reads each at most once.
     pub fn idle_left(&self) -> Option<usize>
         requires { AreThere self.now.senders self.now.left }
         ensures { result ≡ idle_left self.now.senders self.now.left }
@@ -39,7 +39,7 @@ impl<B: Body, N: Copy, H: Drop, P: Drop> Side<B, N, H, P> {
         None
     }
 
-    /// Takes the port at an index out of the connected ones, and notes that it left.
+    /// Removes the port at `index` from the connected ones, and appends it to those that left.
     #[cold]
     pub fn remove_port(&mut self, index: usize, leaving: LeftPort)
         requires index { index < length self.old.ports }
@@ -50,10 +50,11 @@ impl<B: Body, N: Copy, H: Drop, P: Drop> Side<B, N, H, P> {
         self.left.push_reserved(leaving);
     }
 
-    /// Returns whether a receiver has a message from one of the senders. Looks at most once at each sender and channel.
+    /// Returns whether a receiver borrows a message from any sender. Reads each sender and channel at most once.
     #[cold]
     pub fn is_borrowing(&self, receiver: usize) -> bool
-        requires { (l : ℕ) → l < length self.now.senders → receiver < length (sender_of l self.now.senders).messages.borrowed }
+        requires { (l : ℕ) → l < length self.now.senders
+            → receiver < length (sender_of l self.now.senders).messages.borrowed }
         ensures { result ≡ is_borrowing self.now.senders receiver }
     {
         for sender in &self.senders {
@@ -64,7 +65,8 @@ impl<B: Body, N: Copy, H: Drop, P: Drop> Side<B, N, H, P> {
         false
     }
 
-    /// Drops what is queued for a receiver, one step a channel and an entry. Looks at the senders that are noted.
+    /// Drops the entries for a receiver, in steps proportional to channels and entries. Reads the marked senders
+    /// only.
     #[cold]
     pub fn clear_for(&mut self, receiver: usize)
         requires { HaveQueues self.old.senders receiver }
@@ -78,22 +80,25 @@ impl<B: Body, N: Copy, H: Drop, P: Drop> Side<B, N, H, P> {
 
     /// Returns on how many channels each sender has queues to each receiver.
     fn channels(&self) -> usize
-        ensures { (l r : ℕ) → l < length self.now.senders → r < length (sender_of l self.now.senders).messages.queues → length (slice_index_or (sender_of l self.now.senders).messages.queues r []) ≡ result }
+        ensures { (l r : ℕ) → l < length self.now.senders → r < length (sender_of l self.now.senders).messages.queues
+            → length (slice_index_or (sender_of l self.now.senders).messages.queues r []) ≡ result }
     {
         self.waiting.channels
     }
 
-    /// Drops what is queued, for each of these receivers, of the oldest ports that left: of as many as there is no room for as one
-    /// more leaves.
+    /// Drops, for each of these receivers, the entries from the oldest ports that left, as many as exceed the room
+    /// when one more leaves.
     #[cold]
     pub fn expire<R: ConnectedPort>(&mut self, receivers: &[R], leaving: LeftPort, room: usize)
-        requires queues { (i : ℕ) (p : R) → slice_get receivers.now i ≡ Some p → HaveQueues self.old.senders (R.receiver p) }
+        requires queues { (i : ℕ) (p : R) → slice_get receivers.now i ≡ Some p
+            → HaveQueues self.old.senders (R.receiver p) }
         requires ports { AreApart R.receiver receivers.now }
         requires left { AreThere self.old.senders self.old.left }
         requires leaving { leaving.sender < length self.old.senders }
         requires apart { AreApart (λ l. l.sender) self.old.left }
         ensures rest { self.new ≡ record self.old { senders = self.new.senders } }
-        ensures drained { SendersDrained (λ l r. list_any (λ p. R.receiver p == r) receivers.now && is_of (outdated self.old.senders self.old.left room leaving r) l) self.old.senders self.new.senders }
+        ensures drained { SendersDrained (λ l r. list_any (λ p. R.receiver p == r) receivers.now && is_of
+            (outdated self.old.senders self.old.left room leaving r) l) self.old.senders self.new.senders }
     {
         let senders = &mut self.senders;
         let left = self.left.as_slice();
@@ -105,12 +110,16 @@ impl<B: Body, N: Copy, H: Drop, P: Drop> Side<B, N, H, P> {
 }
 
 impl<B: Body, N: Copy, H: Drop, P: ConnectedPort> Side<B, N, H, P> {
-    /// Notes that the value of the port at an index is gone.
+    /// Records that the value of the port at `index` was released.
     #[cold]
     pub fn end_value(&mut self, index: usize)
         requires index { index < length self.old.ports }
         requires sender { IsSomeAnd (slice_get self.old.ports index) (λ p. P.sender p < length self.old.senders) }
-        ensures { IsSomeAnd (slice_get self.old.ports index) (λ p. self.new ≡ record self.old { ports = slice_set self.old.ports index (P.valueless p); senders = with_sender_at self.old.senders (P.sender p) valueless }) }
+        ensures { IsSomeAnd (slice_get self.old.ports index)
+            (λ p. self.new ≡ record self.old {
+              ports = slice_set self.old.ports index (P.valueless p);
+              senders = with_sender_at self.old.senders (P.sender p) valueless;
+            }) }
     {
         let port = &mut self.ports[index];
         let sender = port.details().sender;
@@ -119,7 +128,7 @@ impl<B: Body, N: Copy, H: Drop, P: ConnectedPort> Side<B, N, H, P> {
     }
 }
 
-/// Returns whether a sender has an entry for a receiver. Looks at one channel after another until one has.
+/// Returns whether a sender has an entry for a receiver. Reads the channels in order up to the first entry.
 #[inline(always)]
 fn has_queued<B: Body, N: Copy, H: Drop>(
     senders: &[OwnedSender<B, N, H>],
@@ -133,7 +142,7 @@ fn has_queued<B: Body, N: Copy, H: Drop>(
     senders[sender].messages.has_any(receiver)
 }
 
-/// Drops what waits for a receiver in a sender, one step a channel and an entry.
+/// Drops a sender's entries for a receiver, in steps proportional to channels and entries.
 fn clear_for<B: Body, N: Copy, H: Drop>(
     senders: &mut Vec<OwnedSender<B, N, H>>,
     sender: usize,
@@ -141,7 +150,8 @@ fn clear_for<B: Body, N: Copy, H: Drop>(
 )
     requires sender { sender < length senders.old.items }
     requires queues { receiver < length (sender_of sender (map sender_part senders.old.items)).messages.queues }
-    ensures { SendersDrained (λ l r. l == sender && r == receiver) (map sender_part senders.old.items) (map sender_part senders.new.items) }
+    ensures { SendersDrained (λ l r. l == sender && r == receiver) (map sender_part senders.old.items)
+        (map sender_part senders.new.items) }
 {
     senders[sender].messages.clear_receiver(receiver);
 }
@@ -165,7 +175,7 @@ fn count_queued<B: Body, N: Copy, H: Drop>(
     count
 }
 
-/// Drops what waits for a receiver of so many of the ports that left, of those of which it has an entry the oldest.
+/// Drops a receiver's entries from the `excess` oldest ports that left, of those that have an entry for it.
 fn expire_oldest<B: Body, N: Copy, H: Drop>(
     senders: &mut Vec<OwnedSender<B, N, H>>,
     left: &[LeftPort],
@@ -175,7 +185,9 @@ fn expire_oldest<B: Body, N: Copy, H: Drop>(
     requires queues { HaveQueues (map sender_part senders.old.items) receiver }
     requires left { AreThere (map sender_part senders.old.items) left.now }
     requires apart { AreApart (λ l. l.sender) left.now }
-    ensures { SendersDrained (λ l r. r == receiver && is_of (take excess (queued_left (map sender_part senders.old.items) left.now receiver)) l) (map sender_part senders.old.items) (map sender_part senders.new.items) }
+    ensures { SendersDrained (λ l r. r == receiver && is_of
+        (take excess (queued_left (map sender_part senders.old.items) left.now receiver)) l)
+        (map sender_part senders.old.items) (map sender_part senders.new.items) }
 {
     let mut remaining = excess;
     for port in left {
@@ -186,7 +198,7 @@ fn expire_oldest<B: Body, N: Copy, H: Drop>(
     }
 }
 
-/// Drops what waits for a receiver of the oldest ports that left, for which there is no room as one more leaves.
+/// Drops a receiver's entries from the oldest ports that left, as many as exceed the room when one more leaves.
 fn expire<B: Body, N: Copy, H: Drop>(
     senders: &mut Vec<OwnedSender<B, N, H>>,
     left: &[LeftPort],
@@ -198,7 +210,9 @@ fn expire<B: Body, N: Copy, H: Drop>(
     requires left { AreThere (map sender_part senders.old.items) left.now }
     requires leaving { leaving.sender < length (map sender_part senders.old.items) }
     requires apart { AreApart (λ l. l.sender) left.now }
-    ensures { SendersDrained (λ l r. r == receiver && is_of (outdated (map sender_part senders.old.items) left.now room leaving receiver) l) (map sender_part senders.old.items) (map sender_part senders.new.items) }
+    ensures { SendersDrained (λ l r. r == receiver && is_of
+        (outdated (map sender_part senders.old.items) left.now room leaving receiver) l)
+        (map sender_part senders.old.items) (map sender_part senders.new.items) }
 {
     if has_queued(senders.as_slice(), leaving.sender, receiver) {
         let queued = count_queued(senders.as_slice(), left, receiver);

@@ -1,4 +1,4 @@
-//! What a side tells of a message.
+//! Queries of a message on a side.
 ghost use Rattle.std.specs.Prelude.{◌≡◌, ◌+◌, ◌*◌, ◌<◌, ◌^◌, Option, IfSome, length, slice_index_or};
 ghost use Rattle.rr_slots.specs.Pools.{written};
 ghost use Rattle.rr_sender.specs.Senders.{content_at};
@@ -13,7 +13,7 @@ use rr_slots::Body;
 use rr_table::{Place, Table};
 
 impl<B: Body, N: Copy, H: Drop, P: Drop> Side<B, N, H, P> {
-    /// Returns what a port's sender sends from.
+    /// Returns the messages of a port's sender.
     #[inline(always)]
     pub fn messages(&self, sender: usize) -> &Sender<B, N, H>
         requires { sender < length self.now.senders }
@@ -22,7 +22,7 @@ impl<B: Body, N: Copy, H: Drop, P: Drop> Side<B, N, H, P> {
         &self.senders[sender].messages
     }
 
-    /// Returns the marks of a sender: by slot and receiver, who may still answer.
+    /// Returns the marks of a sender: for each slot and receiver, the server that may still answer.
     #[inline(always)]
     pub fn marks(&self, sender: usize) -> &[u64]
         requires { sender < length self.now.senders }
@@ -46,7 +46,8 @@ impl<B: Body, N: Copy, H: Drop, P: Drop> Side<B, N, H, P> {
     pub fn body(&self, sender: usize, slot: usize) -> &B
         requires sender { sender < length self.now.senders }
         requires slot { slot < length (sender_of sender self.now.senders).messages.held }
-        ensures { written B.asked_len B.elements result.now ≡ content_at (sender_of sender self.now.senders).messages slot }
+        ensures { written B.asked_len B.elements result.now
+            ≡ content_at (sender_of sender self.now.senders).messages slot }
     {
         self.senders[sender].messages.body(slot)
     }
@@ -56,7 +57,8 @@ impl<B: Body, N: Copy, H: Drop, P: Drop> Side<B, N, H, P> {
     pub fn user_header(&self, sender: usize, slot: usize) -> &H
         requires sender { sender < length self.now.senders }
         requires slot { slot < length (sender_of sender self.now.senders).messages.held }
-        ensures { result.now ≡ slice_index_or (sender_of sender self.now.senders).messages.user_headers slot self.now.spare_header }
+        ensures { result.now ≡ slice_index_or (sender_of sender self.now.senders).messages.user_headers slot
+            self.now.spare_header }
     {
         self.senders[sender].messages.user_header(slot)
     }
@@ -79,7 +81,10 @@ impl<B: Body, N: Copy, H: Drop, P: Drop> Side<B, N, H, P> {
         requires sender { sender < length self.now.senders }
         requires receiver { receiver + 1 < 2 ^ 64 }
         requires slot { (receiver + 1) * length (sender_of sender self.now.senders).messages.held + slot < 2 ^ 64 }
-        ensures { result ≡ record { row = (sender_of sender self.now.senders).row; index = (receiver + 1) * length (sender_of sender self.now.senders).messages.held + slot } }
+        ensures { result ≡ record {
+          row = (sender_of sender self.now.senders).row;
+          index = (receiver + 1) * length (sender_of sender self.now.senders).messages.held + slot;
+        } }
     {
         let owned = &self.senders[sender];
         let index = (receiver + 1) * owned.messages.slots() + slot;
@@ -89,7 +94,8 @@ impl<B: Body, N: Copy, H: Drop, P: Drop> Side<B, N, H, P> {
         }
     }
 
-    /// Returns which receiver the client of a response is. Returns `None` if its request has no pending response any more.
+    /// Returns which receiver the client of a response is. Returns `None` if its request has no pending response any
+    /// more.
     #[inline(always)]
     pub fn reached_receiver(
         &self,
@@ -109,8 +115,8 @@ impl<B: Body, N: Copy, H: Drop, P: Drop> Side<B, N, H, P> {
         }
     }
 
-    /// Returns the one place where the active request of a response can stand. `receiver` is the index of its server among the
-    /// receivers of clients. Returns `None` if no sender stands where the response says.
+    /// Returns the only place where the active request of a response can be. `receiver` is the index of its server
+    /// among the receivers of clients. Returns `None` if there is no sender at the index in the response's details.
     #[inline(always)]
     pub fn asked_place(&self, details: ResponseDetails, receiver: usize) -> Option<Place>
         ensures { IfSome result (IsAskedPlace self.now.senders details receiver) }

@@ -33,7 +33,7 @@ impl<B: Body, N: Copy, H: Drop, P: Drop> Side<B, N, H, P> {
         self.ports.len()
     }
 
-    /// Returns how many senders there are: of the connected ports, and of those that left.
+    /// Returns the number of senders, those of the connected ports and of those that left.
     #[inline(always)]
     pub fn sender_count(&self) -> usize
         ensures { result ≡ length self.now.senders }
@@ -41,7 +41,7 @@ impl<B: Body, N: Copy, H: Drop, P: Drop> Side<B, N, H, P> {
         self.senders.len()
     }
 
-    /// Returns the sender of the port that left as the one at an index.
+    /// Returns the sender of the port at `index` of those that left.
     pub fn left_sender(&self, index: usize) -> usize
         requires { index < length self.now.left }
         ensures { result ≡ (left_at index self.now.left).sender }
@@ -59,9 +59,9 @@ impl<B: Body, N: Copy, H: Drop, P: Drop> Side<B, N, H, P> {
 }
 
 impl<B: Body, N: Copy, H: Drop, P: ConnectedPort> Side<B, N, H, P> {
-    /// Returns where among the ports the one with this number stands, in O(log ports). Looks at the first one, then as far behind it as
-    /// the number is above that one's, where it stands if all up to it were created one after another and are still there, and then as
-    /// far before the last one as the number is below that one's, where it stands if all from it on are.
+    /// Returns the index of the port with this number, in O(log ports). Tries the first port, then the index that a
+    /// gapless numbering from the first port would give, then the one that a gapless numbering up to the last port
+    /// would give, and then does a binary search.
     #[inline(always)]
     pub fn index_of(&self, number: u64) -> usize
         requires rising { IsRising P.id self.now.ports }
@@ -85,7 +85,7 @@ impl<B: Body, N: Copy, H: Drop, P: ConnectedPort> Side<B, N, H, P> {
         of_this_hub(index_by_halving(self.ports.as_slice(), number))
     }
 
-    /// Returns where the port that sends from a sender stands, in O(log ports).
+    /// Returns the index of the port that owns a sender, in O(log ports).
     #[cold]
     pub fn index_of_sender(&self, sender: usize) -> usize
         requires sender { sender < length self.now.senders }
@@ -114,11 +114,12 @@ impl<B: Body, N: Copy, H: Drop, P: ConnectedPort> Side<B, N, H, P> {
         self.ports[index].details().receiver
     }
 
-    /// Returns the number and the sender of the port at an index, as they are noted when it leaves.
+    /// Returns the number and the sender of the port at `index`, as they are recorded when it leaves.
     #[cold]
     pub fn leaving(&self, index: usize) -> LeftPort
         requires { index < length self.now.ports }
-        ensures { IsSomeAnd (slice_get self.now.ports index) (λ p. result ≡ record { number = P.id p; sender = P.sender p }) }
+        ensures { IsSomeAnd (slice_get self.now.ports index)
+            (λ p. result ≡ record { number = P.id p; sender = P.sender p }) }
     {
         let port = self.ports[index].details();
         LeftPort {
@@ -139,7 +140,7 @@ impl<B: Body, N: Copy, H: Drop, P: ConnectedPort> Side<B, N, H, P> {
         }
     }
 
-    /// Returns the first receiver, of so many, that no port is, in O(ports * log ports).
+    /// Returns the first receiver below `receivers` that no port uses, in O(ports * log ports).
     pub fn free_receiver(&self, receivers: usize) -> usize
         requires { length self.now.ports < receivers }
         ensures inside { result < receivers }
@@ -158,7 +159,7 @@ impl<B: Body, N: Copy, H: Drop, P: ConnectedPort> Side<B, N, H, P> {
         low
     }
 
-    /// Returns how many ports have a receiver from one on, below another.
+    /// Returns how many ports have a receiver at or above `low` and below `high`.
     fn receivers_between(&self, low: usize, high: usize) -> usize
         ensures { result ≡ count_by (λ p. is_between low high (P.receiver p)) self.now.ports }
     {
@@ -171,8 +172,8 @@ impl<B: Body, N: Copy, H: Drop, P: ConnectedPort> Side<B, N, H, P> {
         count
     }
 
-    /// Adds a port, the sender from which it sends, with these queues, as all have, and a row of the table for its messages. Returns
-    /// `AllocError` if memory was refused; nothing has changed then.
+    /// Adds a port, the sender from which it sends, with these queues, as all have, and a row of the table for its
+    /// messages. Returns `AllocError` if memory was refused; nothing has changed then.
     pub fn insert(
         &mut self,
         alloc: Global,
@@ -186,7 +187,11 @@ impl<B: Body, N: Copy, H: Drop, P: ConnectedPort> Side<B, N, H, P> {
     ) -> Result<(), AllocError>
         requires unsent { messages.queues ≡ replicate receivers (replicate channels []) }
         requires alike { AreAlike receivers channels self.old.senders }
-        ensures ok { OnOk result (self.new ≡ record self.old { ports = self.old.ports ++ port ∷ []; senders = self.old.senders ++ new_sender (P.id port) (length table.old.rows) (P.receiver port) may_answer.items messages ∷ [] }) }
+        ensures ok { OnOk result (self.new ≡ record self.old {
+          ports = self.old.ports ++ port ∷ [];
+          senders = self.old.senders ++ new_sender (P.id port) (length table.old.rows) (P.receiver port)
+              may_answer.items messages ∷ [];
+        }) }
         ensures table { OnOk result (table.new ≡ with_row table.old row_len) }
         ensures err { OnErr result (self.new ≡ self.old) }
         ensures unchanged { OnErr result (table.new ≡ table.old) }
@@ -209,8 +214,9 @@ impl<B: Body, N: Copy, H: Drop, P: ConnectedPort> Side<B, N, H, P> {
         Ok(())
     }
 
-    /// Adds a port that sends from the sender of the one that left as the one at an index: that sender becomes a new one, its row is
-    /// made anew, and that port is no longer noted. Returns `AllocError` if memory was refused; nothing has changed then.
+    /// Adds a port that reuses the sender of the port at an index of those that left: that sender becomes a new one,
+    /// its row is made anew, and the port that left is removed from the list. Returns `AllocError` if memory was
+    /// refused; nothing has changed then.
     pub fn insert_again(
         &mut self,
         alloc: Global,
@@ -225,8 +231,15 @@ impl<B: Body, N: Copy, H: Drop, P: ConnectedPort> Side<B, N, H, P> {
         requires listed { index < length self.old.left }
         requires sender { P.sender port < length self.old.senders }
         requires row { (sender_of (P.sender port) self.old.senders).row < length table.old.rows }
-        ensures ok { OnOk result (self.new ≡ record self.old { ports = self.old.ports ++ port ∷ []; senders = slice_set self.old.senders (P.sender port) (new_sender (P.id port) (sender_of (P.sender port) self.old.senders).row (P.receiver port) may_answer.items messages); left = remove self.old.left index }) }
-        ensures renewed { OnOk result (IsRenewed (sender_of (P.sender port) self.old.senders).row row_len table.old table.new) }
+        ensures ok { OnOk result (self.new ≡ record self.old {
+          ports = self.old.ports ++ port ∷ [];
+          senders = slice_set self.old.senders (P.sender port)
+              (new_sender (P.id port) (sender_of (P.sender port) self.old.senders).row (P.receiver port)
+              may_answer.items messages);
+          left = remove self.old.left index;
+        }) }
+        ensures renewed { OnOk result (IsRenewed (sender_of (P.sender port) self.old.senders).row row_len table.old
+            table.new) }
         ensures err { OnErr result (self.new ≡ self.old) }
         ensures unchanged { OnErr result (table.new ≡ table.old) }
     {
@@ -249,15 +262,15 @@ impl<B: Body, N: Copy, H: Drop, P: ConnectedPort> Side<B, N, H, P> {
     }
 }
 
-/// The entry of no handle: what a vacant place of the table holds.
+/// The entry of no handle, which a vacant place of the table has.
 const NO_HANDLE: HandleEntry = HandleEntry {
     stage: Stage::Response,
     sender: 0,
     slot: 0,
 };
 
-/// Gets room for one more port and one more sender, and adds a row to the table, which it returns. Returns `AllocError` if memory
-/// was refused; the table is unchanged then.
+/// Reserves room for one more port and one more sender, and adds a row to the table, which it returns. Returns
+/// `AllocError` if memory was refused; the table is unchanged then.
 fn reserve_row<P: Drop, S: Drop>(
     alloc: Global,
     ports: &mut Vec<P>,
@@ -278,8 +291,8 @@ fn reserve_row<P: Drop, S: Drop>(
     table.add_row(alloc, row_len, NO_HANDLE)
 }
 
-/// Gets room for one more port, and makes a row of the table anew. Returns `AllocError` if memory was refused; the table is
-/// unchanged then.
+/// Reserves room for one more port, and makes a row of the table anew. Returns `AllocError` if memory was refused;
+/// the table is unchanged then.
 fn renew_row<P: Drop>(
     alloc: Global,
     ports: &mut Vec<P>,
@@ -297,7 +310,7 @@ fn renew_row<P: Drop>(
     table.renew_row(alloc, row, row_len, NO_HANDLE)
 }
 
-/// Returns whether a number is one from another on, below a third.
+/// Returns whether `number` is at least `low` and below `high`.
 #[inline(always)]
 fn is_between(low: usize, high: usize, number: usize) -> bool
     ensures { result ≡ is_between low high number }

@@ -19,7 +19,7 @@ use rr_protocol::ReceiveError;
 use rr_slots::Body;
 
 impl<B: Body, N: Copy, H: Drop, P: Drop> Side<B, N, H, P> {
-    /// Returns whether a message is queued for a receiver on a channel. Looks at most once at each sender that is noted.
+    /// Returns whether a message is queued for a receiver on a channel. Reads each marked sender at most once.
     #[inline(always)]
     pub fn is_waiting(&self, receiver: usize, channel: usize) -> bool
         requires receiver { HaveQueues self.now.senders receiver }
@@ -36,8 +36,8 @@ impl<B: Body, N: Copy, H: Drop, P: Drop> Side<B, N, H, P> {
         false
     }
 
-    /// Returns the first sender from one on from which something may wait for a receiver on a channel: if there are several, one that
-    /// is noted.
+    /// Returns the first sender at or after `from` that may have an entry for a receiver on a channel: if there are
+    /// several senders, the first marked one.
     #[inline(always)]
     pub(crate) fn next_waiting(&self, receiver: usize, channel: usize, from: usize) -> Option<usize>
         requires receiver { HaveQueues self.now.senders receiver }
@@ -52,7 +52,7 @@ impl<B: Body, N: Copy, H: Drop, P: Drop> Side<B, N, H, P> {
         if from < count { Some(from) } else { None }
     }
 
-    /// Returns the first sender from one on, of several, that is noted for a receiver on a channel.
+    /// Returns the first marked sender at or after `from`, if there are several senders.
     #[cold]
     fn next_noted(&self, receiver: usize, channel: usize, from: usize) -> Option<usize>
         requires several { 1 < length self.now.senders }
@@ -64,31 +64,35 @@ impl<B: Body, N: Copy, H: Drop, P: Drop> Side<B, N, H, P> {
         self.waiting.next_from(receiver, channel, from)
     }
 
-    /// Returns whether it is known that nothing waits for a receiver on a channel, where there are several senders. Looks at one word.
+    /// Returns `true` if the one word that it reads shows that nothing is queued for a receiver on a channel. There
+    /// must be several senders.
     #[inline(always)]
     pub fn is_idle(&self, receiver: usize, channel: usize) -> bool
         requires several { 1 < length self.now.senders }
         requires receiver { HaveQueues self.now.senders receiver }
         requires channel { HaveChannels self.now.senders receiver channel }
-        ensures { IsTrue result → (sender : ℕ) → sender < length self.now.senders → queue_from self.now.senders receiver channel sender ≡ [] }
+        ensures { IsTrue result → (sender : ℕ) → sender < length self.now.senders
+            → queue_from self.now.senders receiver channel sender ≡ [] }
     {
         self.waiting.is_known_empty(receiver, channel)
     }
 
-    /// Returns the first sender from one on, of several, from which something may wait for a receiver on a channel, and, if there is
-    /// none, the first of all. Returns `None` if there is none either: nothing waits then.
+    /// Returns the first marked sender at or after `from`, wrapping around to the start, if there are several
+    /// senders. Returns `None` if no sender is marked; nothing is queued then.
     #[inline(always)]
     pub fn next_around(&self, receiver: usize, channel: usize, from: usize) -> Option<usize>
         requires several { 1 < length self.now.senders }
         requires receiver { HaveQueues self.now.senders receiver }
         requires channel { HaveChannels self.now.senders receiver channel }
         ensures there { IfSome result (λ sender. sender < length self.now.senders) }
-        ensures idle { IfNone result ((sender : ℕ) → sender < length self.now.senders → queue_from self.now.senders receiver channel sender ≡ []) }
+        ensures idle { IfNone result ((sender : ℕ) → sender < length self.now.senders
+            → queue_from self.now.senders receiver channel sender ≡ []) }
     {
         self.waiting.next_around(receiver, channel, from)
     }
 
-    /// Returns a sender if a receiver takes next from it on a channel, of which it may have `most`.
+    /// Returns `sender` if it has an entry for a receiver on a channel and the receiver borrows fewer than `most`
+    /// from it.
     #[inline(always)]
     pub fn ready_at(
         &self,
@@ -110,8 +114,8 @@ impl<B: Body, N: Copy, H: Drop, P: Drop> Side<B, N, H, P> {
         None
     }
 
-    /// Returns a sender, one of several, if a receiver takes next from it on a channel, of which it may have `most`. The sender is noted
-    /// no more if nothing waits from it.
+    /// Returns `sender` if it has an entry on `channel` and the receiver borrows fewer than `most` from it. Otherwise
+    /// clears the sender's bit if its queue is empty. There must be several senders.
     #[inline(always)]
     pub fn ready_or_forgotten(
         &mut self,
@@ -125,7 +129,8 @@ impl<B: Body, N: Copy, H: Drop, P: Drop> Side<B, N, H, P> {
         requires receiver { HaveQueues self.old.senders receiver }
         requires channel { HaveChannels self.old.senders receiver channel }
         ensures kept { self.new ≡ self.old }
-        ensures ready { IfSome result (λ sender. IsNextSender self.old.senders receiver channel most (Ok (Some sender))) }
+        ensures ready { IfSome result (λ sender. IsNextSender self.old.senders receiver channel most
+            (Ok (Some sender))) }
     {
         let ready = self.ready_at(sender, receiver, channel, most);
         if ready.is_none() {
@@ -156,12 +161,13 @@ impl<B: Body, N: Copy, H: Drop, P: Drop> Side<B, N, H, P> {
         self.senders[sender].messages.borrowed(receiver, channel)
     }
 
-    /// Returns from which sender, of those from one on, a receiver takes next on a channel, of which it may have `most` from each.
-    /// Returns `None` if those have no message queued. Looks at those that are noted.
+    /// Returns the first sender at or after `from` that has an entry for a receiver on a channel and from which the
+    /// receiver borrows fewer than `most`. Returns `None` if none of them has an entry. Polls the marked senders
+    /// only.
     ///
     /// # Errors
     ///
-    /// - `ExceedsMaxBorrows` if messages are queued alone where the receiver has so many.
+    /// - `ExceedsMaxBorrows` if every queue with entries is at its borrow limit.
     #[inline(always)]
     pub fn next_sender(
         &self,
@@ -191,12 +197,12 @@ impl<B: Body, N: Copy, H: Drop, P: Drop> Side<B, N, H, P> {
         Ok(None)
     }
 
-    /// Returns whether a receiver takes next from the only sender on a channel, of which it may have `most`: from sender 0. Returns
-    /// `None` if it has no message queued, or there is no sender.
+    /// Returns sender 0, the only one, if it has an entry for a receiver on a channel and the receiver borrows fewer
+    /// than `most` from it. Returns `None` if it has no entry, or there is no sender.
     ///
     /// # Errors
     ///
-    /// - `ExceedsMaxBorrows` if a message is queued where the receiver has so many.
+    /// - `ExceedsMaxBorrows` if the queue has an entry but is at its borrow limit.
     #[inline(always)]
     pub fn only_sender(
         &self,
@@ -231,7 +237,7 @@ impl<B: Body, N: Copy, H: Drop, P: Drop> Side<B, N, H, P> {
         slot
     }
 
-    /// Takes the oldest entry out of a queue, and returns its slot. Its sender stays noted.
+    /// Takes the oldest entry out of a queue, and returns its slot. Its sender stays marked.
     #[inline(always)]
     pub fn take_first(&mut self, sender: usize, receiver: usize, channel: usize) -> usize
         requires { CanTake self.old.senders sender receiver channel }
@@ -242,8 +248,8 @@ impl<B: Body, N: Copy, H: Drop, P: Drop> Side<B, N, H, P> {
         self.senders[sender].messages.take(receiver, channel)
     }
 
-    /// Notes the sender before a turn, from which was taken last, no more if nothing waits from it for a receiver on a channel, unless it
-    /// is looked at next.
+    /// Clears the bit of the sender served last, the one before `turn`, if its queue is now empty and it is not the
+    /// next one to be polled.
     #[inline(always)]
     pub fn forget_before(&mut self, receiver: usize, channel: usize, turn: usize, next: usize)
         requires receiver { HaveQueues self.old.senders receiver }
@@ -256,12 +262,13 @@ impl<B: Body, N: Copy, H: Drop, P: Drop> Side<B, N, H, P> {
         }
     }
 
-    /// Notes a sender no more from which nothing waits for a receiver on a channel. With one sender nothing is noted.
+    /// Clears a sender's bit for a receiver on a channel if the queue is empty. A single sender has no bit.
     #[inline(always)]
     pub fn forget_if_empty(&mut self, sender: usize, receiver: usize, channel: usize)
         requires sender { sender < length self.old.senders }
         requires receiver { receiver < length (sender_of sender self.old.senders).messages.queues }
-        requires channel { channel < length (slice_index_or (sender_of sender self.old.senders).messages.queues receiver []) }
+        requires channel { channel < length (slice_index_or (sender_of sender self.old.senders).messages.queues
+            receiver []) }
         ensures { self.new ≡ self.old }
     {
         if 1 < self.senders.len() {
@@ -269,13 +276,14 @@ impl<B: Body, N: Copy, H: Drop, P: Drop> Side<B, N, H, P> {
         }
     }
 
-    /// Notes one of several senders no more from which nothing waits for a receiver on a channel.
+    /// Clears a sender's bit for a receiver on a channel if the queue is empty. There must be several senders.
     #[cold]
     fn forget_empty(&mut self, sender: usize, receiver: usize, channel: usize)
         requires several { 1 < length self.old.senders }
         requires sender { sender < length self.old.senders }
         requires receiver { receiver < length (sender_of sender self.old.senders).messages.queues }
-        requires channel { channel < length (slice_index_or (sender_of sender self.old.senders).messages.queues receiver []) }
+        requires channel { channel < length (slice_index_or (sender_of sender self.old.senders).messages.queues
+            receiver []) }
         ensures { self.new ≡ self.old }
     {
         if !self.senders[sender].messages.has_entries(receiver, channel) {
@@ -283,7 +291,7 @@ impl<B: Body, N: Copy, H: Drop, P: Drop> Side<B, N, H, P> {
         }
     }
 
-    /// Drops what is queued for a receiver on a channel. Looks at the senders that are noted.
+    /// Drops the entries for a receiver on a channel. Reads the marked senders only.
     #[inline(always)]
     pub fn clear_channel(&mut self, receiver: usize, channel: usize)
         requires receiver { HaveQueues self.old.senders receiver }
@@ -298,7 +306,7 @@ impl<B: Body, N: Copy, H: Drop, P: Drop> Side<B, N, H, P> {
         }
     }
 
-    /// Drops what is queued for a receiver on a channel, where there are several senders. Looks at those that are noted.
+    /// Drops the entries for a receiver on a channel, if there are several senders. Reads the marked ones only.
     #[cold]
     fn clear_noted(&mut self, receiver: usize, channel: usize)
         requires receiver { HaveQueues self.old.senders receiver }
@@ -312,31 +320,33 @@ impl<B: Body, N: Copy, H: Drop, P: Drop> Side<B, N, H, P> {
         }
     }
 
-    /// Drops what is queued from a sender for a receiver on a channel, and notes the sender no more.
+    /// Drops a sender's entries for a receiver on a channel, and clears the sender's bit.
     #[inline(always)]
     fn clear_queue(&mut self, sender: usize, receiver: usize, channel: usize)
         requires sender { sender < length self.old.senders }
         requires receiver { receiver < length (sender_of sender self.old.senders).messages.queues }
-        requires channel { channel < length (slice_index_or (sender_of sender self.old.senders).messages.queues receiver []) }
+        requires channel { channel < length (slice_index_or (sender_of sender self.old.senders).messages.queues
+            receiver []) }
         ensures { self.new ≡ with_sender self.old sender (channel_cleared receiver channel) }
     {
         self.drop_queue(sender, receiver, channel);
         self.forget_if_empty(sender, receiver, channel);
     }
 
-    /// Drops what is queued from a sender for a receiver on a channel. The sender stays noted.
+    /// Drops a sender's entries for a receiver on a channel. The sender stays marked.
     #[inline(always)]
     fn drop_queue(&mut self, sender: usize, receiver: usize, channel: usize)
         requires sender { sender < length self.old.senders }
         requires receiver { receiver < length (sender_of sender self.old.senders).messages.queues }
-        requires channel { channel < length (slice_index_or (sender_of sender self.old.senders).messages.queues receiver []) }
+        requires channel { channel < length (slice_index_or (sender_of sender self.old.senders).messages.queues
+            receiver []) }
         ensures { self.new ≡ with_sender self.old sender (channel_cleared receiver channel) }
     {
         self.senders[sender].messages.clear_queue(receiver, channel);
     }
 
-    /// Puts a slot into the queue to each server, but for queues that are full and may not overflow, and notes that each of the
-    /// servers, of `receivers` receivers, may answer.
+    /// Appends a slot to the queue to each server, except for queues that are full and may not overflow, and marks
+    /// that each of the servers may answer. There are `receivers` receivers.
     #[inline(always)]
     pub fn queue<K: Drop>(
         &mut self,
@@ -348,9 +358,13 @@ impl<B: Body, N: Copy, H: Drop, P: Drop> Side<B, N, H, P> {
     )
         requires sender { sender < length self.old.senders }
         requires queues { HasQueues (sender_of sender self.old.senders).messages servers.now }
-        requires takes { (0 < (sender_of sender self.old.senders).messages.capacity) × (0 < slice_index (sender_of sender self.old.senders).messages.held slot) × (uses (sender_of sender self.old.senders).messages slot + length servers.now < 2 ^ 64) }
-        requires marks { (i : ℕ) (s : ServerPort K) → slice_get servers.now i ≡ Some s → slot * receivers + s.port.receiver < length (sender_of sender self.old.senders).may_answer }
-        ensures { self.new ≡ with_sender self.old sender (after_queued overflow receivers slot (map server_part servers.now)) }
+        requires takes { (0 < (sender_of sender self.old.senders).messages.capacity)
+            × (0 < slice_index (sender_of sender self.old.senders).messages.held slot)
+            × (uses (sender_of sender self.old.senders).messages slot + length servers.now < 2 ^ 64) }
+        requires marks { (i : ℕ) (s : ServerPort K) → slice_get servers.now i ≡ Some s
+            → slot * receivers + s.port.receiver < length (sender_of sender self.old.senders).may_answer }
+        ensures { self.new ≡ with_sender self.old sender
+            (after_queued overflow receivers slot (map server_part servers.now)) }
     {
         let owned = &mut self.senders[sender];
         for server in servers {
@@ -361,8 +375,9 @@ impl<B: Body, N: Copy, H: Drop, P: Drop> Side<B, N, H, P> {
         self.waiting.note_each(count, servers, sender);
     }
 
-    /// Makes a handle's hold of a slot the hold of an entry in the queue to the receiver that is reached. Gives it back if none is
-    /// reached, or one whose queue is full and may not overflow. What stands in a slot is dropped with the last use.
+    /// Turns a handle's hold on a slot into the hold of an entry in the queue to the reached receiver. Gives the hold
+    /// back if none is reached, or if the queue is full and may not overflow. The elements are dropped with the last
+    /// hold.
     #[inline(always)]
     pub fn hand_over(
         &mut self,
@@ -374,7 +389,8 @@ impl<B: Body, N: Copy, H: Drop, P: Drop> Side<B, N, H, P> {
     )
         requires sender { sender < length self.old.senders }
         requires queue { HasQueue (sender_of sender self.old.senders).messages channel reach }
-        requires takes { (0 < (sender_of sender self.old.senders).messages.capacity) × (0 < slice_index (sender_of sender self.old.senders).messages.held slot) }
+        requires takes { (0 < (sender_of sender self.old.senders).messages.capacity)
+            × (0 < slice_index (sender_of sender self.old.senders).messages.held slot) }
         ensures { self.new ≡ with_sent self.old sender (λ m. handed_on m overflow channel slot reach) }
     {
         match reach {

@@ -13,13 +13,14 @@ use rr_slots::Body;
 use rr_table::{Place, Table};
 
 impl<B: Body, H: Drop, P: Drop> Side<B, RequestDetails, H, P> {
-    /// Returns from which sender, of those from one on, a receiver takes its next request, of which it may have `most` from each.
-    /// Looks at the senders that are noted. Drops the requests that nobody waits for from the fronts of the queues that it looks at,
-    /// where the receiver may have one more. Returns `None` if those senders have no request queued then.
+    /// Returns the first sender at or after `from` from which a receiver takes its next request, with fewer than
+    /// `most` borrowed from it. Polls the marked senders only. Drops dead requests from the fronts of the queues that
+    /// it polls and that are below the borrow limit. Returns `None` if none of these senders has a request queued
+    /// then.
     ///
     /// # Errors
     ///
-    /// - `ExceedsMaxBorrows` if requests are queued alone where the receiver has so many.
+    /// - `ExceedsMaxBorrows` if every queue with requests is at its borrow limit.
     #[inline(always)]
     pub fn skim_to_next(
         &mut self,
@@ -52,11 +53,11 @@ impl<B: Body, H: Drop, P: Drop> Side<B, RequestDetails, H, P> {
         Ok(None)
     }
 
-    /// The same, where there is one sender at most, which is looked at.
+    /// The same for at most one sender, which is polled directly.
     ///
     /// # Errors
     ///
-    /// - `ExceedsMaxBorrows` if a request is queued where the receiver has so many.
+    /// - `ExceedsMaxBorrows` if the queue has a request but is at its borrow limit.
     #[inline(always)]
     pub fn skim_only(
         &mut self,
@@ -86,8 +87,8 @@ impl<B: Body, H: Drop, P: Drop> Side<B, RequestDetails, H, P> {
         Ok(None)
     }
 
-    /// Returns a sender if a receiver takes its next request from it, of which it may have `most`. Drops the requests that nobody waits
-    /// for from the front of its queue, where the receiver may have one more.
+    /// Returns `sender` if a receiver takes its next request from it, with fewer than `most` borrowed. Drops dead
+    /// requests from the front of its queue, if the queue is below the borrow limit.
     #[inline(always)]
     pub fn skim_at(
         &mut self,
@@ -112,8 +113,8 @@ impl<B: Body, H: Drop, P: Drop> Side<B, RequestDetails, H, P> {
         None
     }
 
-    /// Drops the requests that nobody waits for from the front of a sender's queue. Returns whether a request remains, and notes the
-    /// sender no more if none does.
+    /// Drops dead requests from the front of a sender's queue. Returns whether a request remains, and clears the
+    /// sender's bit if none does.
     #[inline(always)]
     fn skim_queue(&mut self, table: &Table<HandleEntry>, sender: usize, receiver: usize) -> bool
         requires sender { sender < length self.old.senders }
@@ -128,7 +129,7 @@ impl<B: Body, H: Drop, P: Drop> Side<B, RequestDetails, H, P> {
         remaining
     }
 
-    /// Drops the requests that nobody waits for from the front of a sender's queue, which stays noted. Returns whether a request
+    /// Drops dead requests from the front of a sender's queue; the sender stays marked. Returns whether a request
     /// remains.
     #[inline(always)]
     fn skim_front(&mut self, table: &Table<HandleEntry>, sender: usize, receiver: usize) -> bool
@@ -163,7 +164,8 @@ fn skim_sender<B: Body, H: Drop>(
     false
 }
 
-/// Whether the pending response of the request in a slot lives. It looks at the one place where that handle can stand.
+/// Returns whether the pending response of the request in a slot lives. Reads the only place where that handle can
+/// be.
 #[inline(always)]
 fn is_waited<B: Body, H: Drop>(
     sender: &OwnedSender<B, RequestDetails, H>,

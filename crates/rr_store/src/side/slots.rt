@@ -12,7 +12,8 @@ use rr_slots::{AcquireError, Body, FillBody, KeepBody, WriteBody};
 use rr_table::Place;
 
 impl<B: WriteBody, N: Copy, H: Drop, P: Drop> Side<B, N, H, P> {
-    /// Loans a slot for a message of `len` elements, a length that the body's family takes. Returns the place of its handle.
+    /// Loans a slot for a message of `len` elements, a length that the body's family takes. Returns the place of its
+    /// handle.
     ///
     /// # Errors
     ///
@@ -31,11 +32,16 @@ impl<B: WriteBody, N: Copy, H: Drop, P: Drop> Side<B, N, H, P> {
         requires sender { sender < length self.old.senders }
         requires len { IsTrue (takes_len B.family len) }
         ensures row { IfOk result (λ place. place.row ≡ (sender_of sender self.old.senders).row) }
-        ensures free { IfOk result (λ place. slice_get (sender_of sender self.old.senders).messages.held place.index ≡ Some 0) }
-        ensures unused { IfOk result (λ place. times place.index (all_entries (sender_of sender self.old.senders).messages.queues) ≡ 0) }
-        ensures ok { IfOk result (λ place. self.new ≡ with_sent self.old sender (λ m. loaned m place.index len details user_header)) }
-        ensures full { IsErrOf result AcquireError.Full ↔ (used_count (sender_of sender self.old.senders).messages ≡ length (sender_of sender self.old.senders).messages.held) }
-        ensures no_room { IsErrOf result AcquireError.NoRoom → (sender_of sender self.old.senders).messages.room < len }
+        ensures free { IfOk result (λ place. slice_get (sender_of sender self.old.senders).messages.held place.index
+            ≡ Some 0) }
+        ensures unused { IfOk result (λ place. times place.index
+            (all_entries (sender_of sender self.old.senders).messages.queues) ≡ 0) }
+        ensures ok { IfOk result (λ place. self.new ≡ with_sent self.old sender
+            (λ m. loaned m place.index len details user_header)) }
+        ensures full { IsErrOf result AcquireError.Full ↔ (used_count (sender_of sender self.old.senders).messages
+            ≡ length (sender_of sender self.old.senders).messages.held) }
+        ensures no_room { IsErrOf result AcquireError.NoRoom
+            → (sender_of sender self.old.senders).messages.room < len }
         ensures err { OnErr result (self.new ≡ self.old) }
     {
         let owned = &mut self.senders[sender];
@@ -54,7 +60,8 @@ impl<B: WriteBody, N: Copy, H: Drop, P: Drop> Side<B, N, H, P> {
         requires sender { sender < length self.old.senders }
         requires slot { slot < length (sender_of sender self.old.senders).messages.held }
         ensures told { result ≡ not (is_written (content_at (sender_of sender self.old.senders).messages slot)) }
-        ensures pushed { self.new ≡ (if result then with_sent self.old sender (λ m. with_changed_at m slot (appended item)) else self.old) }
+        ensures pushed { self.new ≡ (if result then with_sent self.old sender
+            (λ m. with_changed_at m slot (appended item)) else self.old) }
     {
         if self.senders[sender].messages.body(slot).is_complete() {
             return false;
@@ -63,7 +70,8 @@ impl<B: WriteBody, N: Copy, H: Drop, P: Drop> Side<B, N, H, P> {
         true
     }
 
-    /// Makes an element the only one of the message in a slot, of which one is asked for at least. Old ones are dropped.
+    /// Writes an element as the only one of the message in a slot, which was loaned for at least one. Old elements
+    /// are dropped.
     #[inline(always)]
     pub fn write(&mut self, sender: usize, slot: usize, element: B::Item)
         requires sender { sender < length self.old.senders }
@@ -74,8 +82,8 @@ impl<B: WriteBody, N: Copy, H: Drop, P: Drop> Side<B, N, H, P> {
         self.senders[sender].messages.write(slot, element);
     }
 
-    /// Makes another element the one at an index of the message in a slot, if one stands there, and returns whether one did. The
-    /// old one is dropped.
+    /// Replaces the element at `index` of the message in a slot, if there is one, and returns whether there was. The
+    /// old element is dropped.
     #[inline(always)]
     pub fn write_element(
         &mut self,
@@ -86,8 +94,10 @@ impl<B: WriteBody, N: Copy, H: Drop, P: Drop> Side<B, N, H, P> {
     ) -> bool
         requires sender { sender < length self.old.senders }
         requires slot { slot < length (sender_of sender self.old.senders).messages.held }
-        ensures told { result ≡ nat_lt index (length (content_at (sender_of sender self.old.senders).messages slot).elements) }
-        ensures written { self.new ≡ (if result then with_sent self.old sender (λ m. with_changed_at m slot (with_element_at index element)) else self.old) }
+        ensures told { result ≡ nat_lt index (length (content_at (sender_of sender self.old.senders).messages
+            slot).elements) }
+        ensures written { self.new ≡ (if result then with_sent self.old sender
+            (λ m. with_changed_at m slot (with_element_at index element)) else self.old) }
     {
         if index >= self.senders[sender].messages.body(slot).len() {
             return false;
@@ -98,7 +108,7 @@ impl<B: WriteBody, N: Copy, H: Drop, P: Drop> Side<B, N, H, P> {
 }
 
 impl<B: Body, N: Copy, H: Drop, P: Drop> Side<B, N, H, P> {
-    /// Gives back a hold on the message in a slot. What stands in the slot is dropped with the last use.
+    /// Gives back a hold on the message in a slot. The elements are dropped with the last hold.
     #[inline(always)]
     pub fn give_back(&mut self, sender: usize, slot: usize)
         requires sender { sender < length self.old.senders }
@@ -110,7 +120,7 @@ impl<B: Body, N: Copy, H: Drop, P: Drop> Side<B, N, H, P> {
 }
 
 impl<B: FillBody, N: Copy, H: Drop, P: Drop> Side<B, N, H, P> {
-    /// Makes an element each of those that are asked for of the message in a slot. Old ones are dropped.
+    /// Fills the message in a slot with copies of one element. Old elements are dropped.
     #[inline(always)]
     pub fn fill(&mut self, sender: usize, slot: usize, element: B::Item)
         requires sender { sender < length self.old.senders }
@@ -120,7 +130,8 @@ impl<B: FillBody, N: Copy, H: Drop, P: Drop> Side<B, N, H, P> {
         self.senders[sender].messages.fill(slot, element);
     }
 
-    /// Makes copies of these the elements of the message in a slot, where as many are asked for. Old ones are dropped.
+    /// Copies these elements, which must be as many as were loaned, into the message in a slot. Old elements are
+    /// dropped.
     #[inline(always)]
     pub fn copy(&mut self, sender: usize, slot: usize, elements: &[B::Item])
         requires sender { sender < length self.old.senders }
@@ -133,7 +144,7 @@ impl<B: FillBody, N: Copy, H: Drop, P: Drop> Side<B, N, H, P> {
 }
 
 impl<B: KeepBody, N: Copy, H: Drop, P: Drop> Side<B, N, H, P> {
-    /// Makes the message in a slot complete, by whatever elements: by those that its memory keeps.
+    /// Makes the message in a slot complete with unspecified elements: those that its memory holds.
     #[inline(always)]
     pub fn complete(&mut self, sender: usize, slot: usize)
         requires sender { sender < length self.old.senders }

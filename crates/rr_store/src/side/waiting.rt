@@ -8,8 +8,9 @@ use crate::ServerPort;
 use rr_sender::SenderSets;
 use std::alloc::{AllocError, Global};
 
-/// For each receiver and channel the senders from which something may wait there, where there are several: with one sender nothing
-/// is noted, and it is looked at. A sender is noted when something is queued, and no more when a look finds its queue empty.
+/// For each receiver and channel, the set of marked senders: those that may have an entry for it. A sender is marked
+/// when an entry is queued, and its bit is cleared when a poll finds its queue empty. A side with a single sender
+/// marks nothing and polls that sender.
 #[derive(Drop)]
 pub(crate) struct Waiting {
     /// The senders, by receiver and channel.
@@ -18,12 +19,12 @@ pub(crate) struct Waiting {
     pub receivers: usize,
     /// How many channels each receiver has.
     pub channels: usize,
-    /// How many sets there are.
+    /// The number of sets.
     pub sets: usize,
 }
 
 impl Waiting {
-    /// Notes nothing. Takes no memory.
+    /// Makes empty sets. Takes no memory.
     pub(crate) fn new(alloc: Global) -> Self
         ensures senders { result.senders.columns.items ≡ [] }
         ensures receivers { result.receivers ≡ 0 }
@@ -38,12 +39,12 @@ impl Waiting {
         }
     }
 
-    /// Gets room for one more sender beside so many, which has these queues, as they have. With the second, the first one is noted
-    /// everywhere.
+    /// Reserves room for one more sender beside `count` senders with the same queues. When the second sender is
+    /// added, the first one is marked in every set.
     ///
     /// # Errors
     ///
-    /// - `AllocError` if memory was refused; what is noted has not changed then.
+    /// - `AllocError` if memory was refused; no bit has changed then.
     pub(crate) fn reserve(
         &mut self,
         alloc: Global,
@@ -72,7 +73,7 @@ impl Waiting {
     ///
     /// # Errors
     ///
-    /// - `AllocError` if there are more queues than a `usize` counts, for which no memory is enough; nothing has changed then.
+    /// - `AllocError` if the number of queues overflows a `usize`; nothing has changed then.
     fn begin(&mut self, alloc: Global, receivers: usize, channels: usize) -> Result<(), AllocError>
         requires sets { self.old.sets ≡ self.old.receivers * self.old.channels }
         requires fits { self.old.sets < 2 ^ 64 }
@@ -92,7 +93,7 @@ impl Waiting {
         }
     }
 
-    /// Notes that something may wait for a receiver on a channel from a sender.
+    /// Marks a sender for a receiver on a channel.
     #[inline(always)]
     fn note(&mut self, receiver: usize, channel: usize, sender: usize)
         requires fits { set_of self.old receiver channel < 2 ^ 64 }
@@ -104,8 +105,7 @@ impl Waiting {
             .insert(receiver * self.channels + channel, sender);
     }
 
-    /// Notes that something may wait for a receiver on a channel from a sender, which is one of so many. Does nothing if it is the only
-    /// one.
+    /// Marks a sender for a receiver on a channel. Does nothing if `count`, the number of senders, is 1.
     #[inline(always)]
     pub(crate) fn note_among(
         &mut self,
@@ -142,8 +142,7 @@ impl Waiting {
         }
     }
 
-    /// Notes that something may wait for each of these servers from a sender, which is one of so many. Does nothing if it is the only
-    /// one.
+    /// Marks a sender for each of these servers. Does nothing if `count`, the number of senders, is 1.
     #[inline(always)]
     pub(crate) fn note_each<K: Drop>(
         &mut self,
@@ -159,7 +158,7 @@ impl Waiting {
         }
     }
 
-    /// Notes that something may wait for each of these servers from a sender, which is one of so many.
+    /// Marks a sender for each of these servers. `count` is the number of senders.
     #[cold]
     fn note_all<K: Drop>(&mut self, count: usize, servers: &[ServerPort<K>], sender: usize)
         requires { 1 < count → HavePlaces self.old sender servers.now }
@@ -170,7 +169,7 @@ impl Waiting {
         }
     }
 
-    /// Notes that nothing waits for a receiver on a channel from a sender.
+    /// Clears a sender's bit for a receiver on a channel.
     #[inline(always)]
     pub(crate) fn forget(&mut self, receiver: usize, channel: usize, sender: usize)
         requires fits { set_of self.old receiver channel < 2 ^ 64 }
@@ -182,7 +181,7 @@ impl Waiting {
             .remove(receiver * self.channels + channel, sender);
     }
 
-    /// Returns whether it is known that no sender is noted for a receiver on a channel. Looks at one word.
+    /// Returns `true` if the one word that it reads shows that no sender is marked for a receiver on a channel.
     #[inline(always)]
     pub(crate) fn is_known_empty(&self, receiver: usize, channel: usize) -> bool
         requires { set_of self.now receiver channel < 2 ^ 64 }
@@ -192,7 +191,7 @@ impl Waiting {
             .is_known_empty(receiver * self.channels + channel)
     }
 
-    /// Returns the first sender from one on that is noted for a receiver on a channel, and, if there is none, the first of all.
+    /// Returns the first marked sender at or after `from`, wrapping around to the start.
     #[inline(always)]
     pub(crate) fn next_around(&self, receiver: usize, channel: usize, from: usize) -> Option<usize>
         requires { set_of self.now receiver channel < 2 ^ 64 }
@@ -203,7 +202,7 @@ impl Waiting {
             .next_around(receiver * self.channels + channel, from)
     }
 
-    /// Returns the first sender from one on that is noted for a receiver on a channel.
+    /// Returns the first marked sender at or after `from`.
     #[inline(always)]
     pub(crate) fn next_from(&self, receiver: usize, channel: usize, from: usize) -> Option<usize>
         requires { set_of self.now receiver channel < 2 ^ 64 }

@@ -26,7 +26,7 @@ impl<QB: Body, QH: Default + Drop, PB: Body, PH: Default + Drop, K: Backpressure
     PH,
     K,
 > {
-    /// Returns whether a handle, which stands somewhere, stands in this place.
+    /// Returns whether `place` is the place of a handle that the table has.
     #[inline(always)]
     pub fn is_place_of(&self, number: u64, place: Place) -> bool
         requires { IsSome (handle_at (state_of (opened self.now)) number) }
@@ -36,7 +36,8 @@ impl<QB: Body, QH: Default + Drop, PB: Body, PH: Default + Drop, K: Backpressure
         self.table.is_place_of(number, place)
     }
 
-    /// Returns where a handle stands. Looks where its id says first, and walks over the table if it stands elsewhere.
+    /// Returns the place of a handle. Tries the place in its id first, and searches the table if the handle is
+    /// elsewhere.
     #[inline(always)]
     pub fn locate(&self, id: &HandleId) -> Place
         requires { IsSome (handle_at (state_of (opened self.now)) id.now) }
@@ -50,7 +51,7 @@ impl<QB: Body, QH: Default + Drop, PB: Body, PH: Default + Drop, K: Backpressure
         }
     }
 
-    /// Returns where a handle stands. Walks over the table.
+    /// Returns the place of a handle. Searches the table.
     #[cold]
     fn place_of(&self, number: u64) -> Place
         requires { IsSome (handle_at (state_of (opened self.now)) number) }
@@ -59,7 +60,8 @@ impl<QB: Body, QH: Default + Drop, PB: Body, PH: Default + Drop, K: Backpressure
         of_this_hub(self.table.find(number))
     }
 
-    /// Returns a handle. Looks where its id says first, and walks over the table if it stands elsewhere.
+    /// Returns the entry of a handle. Tries the place in its id first, and searches the table if the handle is
+    /// elsewhere.
     #[inline(always)]
     pub fn look_up(&self, id: &HandleId) -> HandleEntry
         requires { IsSome (handle_at (state_of (opened self.now)) id.now) }
@@ -97,20 +99,22 @@ impl<QB: Body, QH: Default + Drop, PB: Body, PH: Default + Drop, K: Backpressure
         number
     }
 
-    /// Counts one response less on loan from the active request of a response, if that is not released yet. `receiver` is the
-    /// index of the response's server among the receivers of clients.
+    /// Decrements the loans of a response's active request, if that is not released yet. `receiver` is the index of
+    /// the response's server among the receivers of clients.
     #[inline(always)]
     pub fn end_loan_from(&mut self, details: ResponseDetails, receiver: usize)
         ensures rest { opened self.new ≡ record (opened self.old) { table = self.new.table } }
-        ensures ended { (at : Option place.Place) × IfSome at (IsAskedPlace self.old.clients.senders details receiver) × IsLoanEnded details.active_request (found_under self.old.table details.active_request at) self.old.table self.new.table }
+        ensures ended { (at : Option place.Place) × IfSome at (IsAskedPlace self.old.clients.senders details receiver)
+            × IsLoanEnded details.active_request (found_under self.old.table details.active_request at) self.old.table
+            self.new.table }
     {
         let at = self.clients.asked_place(details, receiver);
         end_loan_from(&mut self.table, details.active_request, at);
     }
 }
 
-/// Counts one response less on loan from an active request, if one stands under the number. Looks in one place alone, where one
-/// is given.
+/// Decrements the loans of the active request with this number, if there is one. Reads one place only, if a place is
+/// given.
 #[tactic(auto, using(crate::proofs::base::lookups::Placed::kept_there))]
 #[inline(always)]
 fn end_loan_from(table: &mut Table<HandleEntry>, number: u64, at: Option<Place>)
@@ -131,7 +135,7 @@ fn end_loan_from(table: &mut Table<HandleEntry>, number: u64, at: Option<Place>)
     }
 }
 
-/// Counts one response less on loan from a handle, if it is an active request.
+/// Decrements the loans of a handle, if it is an active request.
 #[inline(always)]
 fn end_loan_of(table: &mut Table<HandleEntry>, number: u64, place: Place, entry: HandleEntry)
     requires { fin_map.get table.old.entries number ≡ Some (table_entry place entry) }

@@ -17,8 +17,9 @@ fn states() -> Result<(ChannelState, ChannelState), AllocError> {
     Ok((first, other))
 }
 
-/// Returns whether a channel is open for its request before it is opened, and then; whether it has a hint after one for another request,
-/// and after one for its own; and whether it is open after a close by another request, after one by its own, and once all were closed.
+/// Returns whether a channel is open for its request before it is opened, and then; whether it has a hint after one
+/// for another request, and after one for its own; and whether it is open after a close by another request, after one
+/// by its own, and once all were closed.
 fn used(alloc: Global) -> Result<[bool; 7], AllocError> {
     let (own, other) = states()?;
     let mut table = ChannelTable::new(alloc, 2)?;

@@ -3,7 +3,7 @@ ghost use Rattle.std.specs.Prelude.{◌≡◌, ℕ, ◌<◌, ◌-◌};
 
 use rr_claims::{Claim, Keeper, Named, Says};
 
-/// What is claimed of a number.
+/// The kinds of claims on a number.
 pub enum Kind {
     /// It is that of a place that is taken.
     Taken,
@@ -31,7 +31,7 @@ impl Named<Kind> for Place {
     ghost what = { Taken };
 }
 
-/// How many places of a row follow one that is claimed. That it is in the row stands in its claim alone.
+/// Returns how many places of a row follow a claimed one. Only the claim says that the place is in the row.
 fn places_after(
     keeper: &mut Keeper<u64, Kind, InRow>,
     length: u64,
@@ -47,7 +47,8 @@ fn places_after(
     length - number - 1
 }
 
-/// Claims two places, one of them in exchange for another, and gives it back. Returns how many followed the first before and afterwards.
+/// Claims two places, one of them in exchange for another, and gives it back. Returns how many followed the first
+/// before and afterwards.
 fn two_places() -> (u64, u64)
     ensures { result ≡ (2, 4) }
 {

@@ -5,7 +5,8 @@ ghost use Rattle.rr_log.specs.Entries.{beginning, whole};
 
 use rr_log::{Log, Pen, Seen};
 
-/// Adds an entry by each of two callers, and compares what they have seen. Returns the pen, whose log has both entries in their order.
+/// Appends an entry by each of two callers, and compares their histories. Returns the pen, whose log has both entries
+/// in order.
 fn two_entries() -> Pen<u64>
     ensures { map (λ entry. entry.1) result.entries ≡ 3 ∷ 5 ∷ [] }
 {
@@ -44,7 +45,8 @@ fn catch_up(log: &Log<u64>, pen: &mut Pen<u64>, caller: &mut Seen<u64>)
     log.catch_up(pen, caller);
 }
 
-/// Adds an entry of each of two callers, and shows the first one all. Returns the first one, which has seen both entries.
+/// Adds an entry of each of two callers, and shows the first one all. Returns the first one, which has seen both
+/// entries.
 fn seen_by_first() -> Seen<u64>
     ensures { map (λ entry. entry.1) result.entries ≡ 3 ∷ 5 ∷ [] }
 {

@@ -1,5 +1,5 @@
 //! That replies can be made and compared.
-use rr_commands::{Elements, Reply};
+use rr_protocol::{Elements, Reply};
 use std::alloc::{AllocError, Global};
 
 /// A reply with two elements.
@@ -26,8 +26,8 @@ fn payloads_are_equal_where_their_elements_are(rt: HostRuntime) {
     assert!(rt; compared(rt.alloc()) == Ok([true, false, false, false]));
 }
 
-/// Returns whether copies of a payload of two elements, of one of one element, and of another reply are equal to them, and whether
-/// one element alone equals a vector of it.
+/// Returns whether copies of a payload of two elements, of one of one element, and of another reply are equal to
+/// them, and whether one element alone equals a vector of it.
 fn copied(alloc: Global) -> Result<[bool; 4], AllocError> {
     let two = payload(alloc, 1, 2)?;
     let one: Reply<u64, u64> = Reply::Payload(Elements::from([1]));

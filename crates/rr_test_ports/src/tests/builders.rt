@@ -1,4 +1,4 @@
-//! What ports are that builders made, and what they are without a word.
+//! Ports that builders made with settings, and with the defaults.
 #![tactic(auto, using(rr_ports::proofs::Frames::callers), unfolding(rr_ports::specs::Facts::Keeps, rr_ports::specs::Facts::IsFree))]
 
 ghost use Rattle.std.specs.Prelude.{◌<◌, ◌≤◌, ◌+◌, []};
@@ -25,10 +25,10 @@ fn loaned_len(hub: &mut Service, client: &Client<u64>, len: usize) -> Result<usi
     Ok(loaned)
 }
 
-/// What a client does at a full queue, for how many elements its slots have room, and how many a loaned request has.
+/// A client's strategy at a full queue, the room of its slots in elements, and the length of a loaned request.
 type ClientSettings = (BackpressureStrategy, usize, Result<usize, LoanError>);
 
-/// Creates a client, loans a request of `len` elements, and releases both. Returns what the client is.
+/// Creates a client, loans a request of `len` elements, and releases both. Returns the client's settings.
 fn client_settings(
     hub: &mut Service,
     factory: PortFactoryClient<u64>,
@@ -45,8 +45,8 @@ fn client_settings(
     Ok((strategy, room, loaned))
 }
 
-/// A client waits at full queues and its slots grow, if it is set to. Else it passes them over, and its slots have room for one
-/// element and don't grow.
+/// A client waits at full queues and its slots grow, if it is set to. Otherwise it skips them, and its slots have
+/// room for one element and don't grow.
 #[test]
 fn a_client_is_as_its_builder_set_it(rt: HostRuntime) {
     let mut hub = Service::with_default_limits(rt.alloc(), UniqueNodeId(0));
@@ -68,7 +68,7 @@ fn a_client_is_as_its_builder_set_it(rt: HostRuntime) {
     );
 }
 
-/// Creates a server and releases it. Returns what it does at a full queue, and for how many elements its slots have room.
+/// Creates a server and releases it. Returns its strategy at a full queue, and the room of its slots in elements.
 fn server_settings(
     hub: &mut Service,
     factory: PortFactoryServer<u64>,
@@ -82,7 +82,8 @@ fn server_settings(
     Ok(settings)
 }
 
-/// A server waits at full queues and has room for more elements, if it is set to. Else it passes them over, and has room for one.
+/// A server waits at full queues and has room for more elements, if it is set to. Otherwise it skips them, and has
+/// room for one.
 #[test]
 fn a_server_is_as_its_builder_set_it(rt: HostRuntime) {
     let mut hub = Service::with_default_limits(rt.alloc(), UniqueNodeId(0));

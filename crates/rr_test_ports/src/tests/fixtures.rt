@@ -23,11 +23,11 @@ pub const LIMITS: Limits = Limits {
     ..Limits::SMALLEST
 };
 
-/// What a hub, a client and a server are made with.
+/// The settings of a hub, a client and a server.
 #[derive(Clone, Copy)]
 pub struct Setup {
     pub limits: Limits,
-    /// The slots that are asked for in both pools.
+    /// The requested number of slots in both pools.
     pub slots: usize,
     /// The server's loaned responses per request, if they are set.
     pub loans: Option<usize>,

@@ -25,7 +25,8 @@ impl BackpressureFn for At {
     ghost use Rattle.std.specs.Prelude.{◌==◌, if◌then◌else◌};
     ghost use Rattle.rr_protocol.specs.declared.settings.BackpressureAction.TheVariants.{FollowBackpressureStrategy};
 
-    ghost action = { λ handler _ receiver. if receiver == handler.receiver then handler.action else FollowBackpressureStrategy };
+    ghost action = { λ handler _ receiver. if receiver == handler.receiver then handler.action else
+        FollowBackpressureStrategy };
 
     fn act(&self, info: &BackpressureInfo) -> BackpressureAction {
         if info.receiver == self.receiver {
@@ -52,7 +53,8 @@ fn tell(hub: &mut Service, client: &Client<u64>, value: u64) -> Result<usize, Re
     Ok(count)
 }
 
-/// Sends three numbers to a server 1, whose queue has room for two. Returns how many queues took the third, or why it was refused.
+/// Sends three numbers to a server 1, whose queue has room for two. Returns how many queues took the third, or why it
+/// was refused.
 fn tell_three(
     rt: &impl Abort,
     alloc: Global,
@@ -74,7 +76,7 @@ fn tell_three(
     third
 }
 
-/// A handler is asked before the strategy, and may leave it to the strategy: a third request finds the server's queue full.
+/// A handler decides before the strategy applies, and may defer to it: a third request finds the server's queue full.
 #[test]
 fn a_handler_is_asked_before_the_strategy(rt: HostRuntime) {
     let refused = Err(RequestSendError::SendError(SendError::UnableToDeliver));

@@ -1,4 +1,4 @@
-//! What a hub holds, and where it may go.
+//! Hubs: the values that they hold, and moves of hubs.
 #![tactic(auto, using(rr_ports::proofs::Frames::callers), unfolding(rr_ports::specs::Facts::Keeps, rr_ports::specs::Facts::IsFree))]
 
 use super::fixtures::{LIMITS, SETUP, connect};
@@ -19,7 +19,8 @@ fn a_port_is_told_by_its_number(rt: HostRuntime) {
     assert_eq!(rt; (shown.as_str(), is_same), ("Server(1) 1", true));
 }
 
-/// A hub has the limits and the node id that it was made with, and holds the ports that it lists; an empty hub holds none of them.
+/// A hub has the limits and the node id that it was made with, and holds the ports that it lists; an empty hub holds
+/// none of them.
 #[test]
 fn a_hub_holds_its_own_ports(rt: HostRuntime) {
     let ports = connect(&rt, rt.alloc(), SETUP);

@@ -15,7 +15,7 @@ type Page = [u64; 4];
 /// A service that answers pages with pages.
 type Pages = Hub<Page, u64, Page, u64>;
 
-/// Loans a request, writes a word of its page where it lies, and releases it. Returns what the page said before.
+/// Loans a request, writes a word of its page in place, and releases it. Returns the old word.
 fn rewritten(
     hub: &mut Pages,
     client: &Client<Page>,
@@ -38,7 +38,8 @@ fn rewritten(
     Ok(before)
 }
 
-/// A slot has a default value at first, and then what was written last. What a write leaves of it is what it was.
+/// A slot has a default value at first, and then the value that was written last. The part that a write leaves out is
+/// unchanged.
 #[test]
 fn a_value_stays_in_its_slot(rt: HostRuntime) {
     let mut hub = Pages::new(rt.alloc(), LIMITS, UniqueNodeId(7)).expect(&rt, "a hub");

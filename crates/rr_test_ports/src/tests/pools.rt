@@ -63,7 +63,8 @@ fn refusals(
     }
 }
 
-/// Sends a request, and while it is held loans another one, and responses to it. Returns `None` if it was not received.
+/// Sends a request, and while it is held loans another one, and responses to it. Returns `None` if it was not
+/// received.
 fn refused(
     hub: &mut Service,
     client: &Client<u64>,
@@ -88,9 +89,9 @@ fn refused(
     Ok(refused)
 }
 
-/// A server grants one loan for each request, unless it is set to more; 0 counts as 1. A pool has one slot at least, and here each is
-/// held by a request and by a response; and at most the worst case, which is 11 requests and 34 responses: for more slots no memory
-/// would be found.
+/// A server grants one loan for each request, unless it is set to more; 0 counts as 1. A pool has one slot at least,
+/// and here each is held by a request and by a response; and at most the worst case, which is 11 requests and 34
+/// responses: for more slots no memory would be found.
 #[test]
 fn loans_are_counted_per_request_and_by_slots(rt: HostRuntime) {
     let exceeds = Some(LoanError::ExceedsMaxLoans);

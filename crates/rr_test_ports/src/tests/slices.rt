@@ -210,7 +210,8 @@ struct Row {
     answer: &'static [u64],
 }
 
-/// Sends a request, responds to it and receives the response. Returns whether each has the elements that it is to have.
+/// Sends a request, responds to it and receives the response. Returns whether each has the elements that it is to
+/// have.
 fn exchange(
     hub: &mut Service,
     client: &Client<u64>,

@@ -25,7 +25,7 @@ fn answer(hub: &mut Texts, server: &Server<String>, text: String)
     }
 }
 
-/// What two receives return.
+/// The results of two receives.
 type Two = (Option<String>, Option<String>);
 
 /// Asks, has the server answer, and takes what comes.

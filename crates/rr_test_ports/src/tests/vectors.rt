@@ -32,7 +32,7 @@ fn send_written(hub: &mut Service, active: &ActiveRequest<u64>, value: u64) -> R
     response.send(hub)
 }
 
-/// Loans a response and writes its payload through a `&mut`, which does not make it one that can be sent.
+/// Loans a response and writes its payload through a `&mut`, which does not make it ready to send.
 #[tactic(auto, using(rr_ports::proofs::Frames::borrowers), unfolding(rr_ports::specs::Facts::Keeps, rr_ports::specs::Facts::IsFree))]
 fn loan_written(
     hub: &mut Service,
@@ -125,8 +125,8 @@ fn exchange(
     Ok(came?)
 }
 
-/// The payload and the user header that were written last are those that the client receives, however they were written. The response
-/// names the server that sent it, and has one element.
+/// The payload and the user header that were written last are those that the client receives, however they were
+/// written. The response names the server that sent it, and has one element.
 #[test]
 fn a_response_is_received_as_it_was_written(rt: HostRuntime) {
     for (asked, way, payload, user_header) in [
@@ -166,8 +166,8 @@ fn told(hub: &mut Service, server: &Server<u64>) -> Result<Option<Told>, Error>
     Ok(Some(came))
 }
 
-/// A request that nobody waits for is received where requests are fire-and-forget, and else dropped. Its header names the client and the
-/// node.
+/// A request that nobody waits for is received where requests are fire-and-forget, and else dropped. Its header names
+/// the client and the node.
 #[test]
 fn a_request_that_nobody_waits_for_is_received_or_dropped(rt: HostRuntime) {
     for forget in [true, false] {

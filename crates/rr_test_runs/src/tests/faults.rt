@@ -27,7 +27,7 @@ impl Read for FailingReader<'_> {
     }
 }
 
-/// Keeps what the first writes write, and the next one fails.
+/// Keeps the output of the first writes, and fails at the next one.
 #[derive(Drop)]
 struct FailingWriter {
     written: Vec<u8>,
@@ -49,7 +49,7 @@ impl Write for FailingWriter {
     }
 }
 
-/// What a program is handed, and how it ends where nothing fails.
+/// The arguments and the input of a program, and its result if nothing fails.
 #[derive(Clone, Copy)]
 struct Case<'a> {
     words: &'a [String],
@@ -69,7 +69,7 @@ enum Side {
 /// How a run ended of which a call failed, or was to fail.
 #[derive(Clone, Copy, PartialEq, Eq)]
 enum End {
-    /// With status 2 and the fault's text, after a beginning of what is wanted.
+    /// With status 2 and the fault's text, after a prefix of the wanted output.
     Fault,
     /// As where nothing fails: the call was not reached.
     Whole,
@@ -162,29 +162,32 @@ fn failing_pool(alloc: Global, pools: &[PoolRow], side: Side) -> io::Result<Opti
     Ok(None)
 }
 
+/// All rows whose scripts end well.
+const ROWS: [&[Row]; 19] = [
+    &rows::REQUESTS,
+    &rows::WRITING,
+    &rows::LIMITS,
+    &rows::STRANGERS,
+    &queues::FULL_QUEUES,
+    &queues::LATE_ANSWERS,
+    &leaving::PLACES,
+    &leaving::SERVERS,
+    &leaving::CLIENTS,
+    &pools::POOLS,
+    &slices::SLICES,
+    &questions::HANDLES,
+    &questions::QUEUES,
+    &rewriting::ELEMENTS,
+    &rewriting::HEADERS,
+    &defaults::WRITTEN,
+    &defaults::REFUSED,
+    &defaults::SLICES,
+    &turns::TURNS,
+];
+
 /// Returns the name of the first row, of all, that doesn't end with a fault at each of its calls.
 fn failing_row(alloc: Global, side: Side) -> io::Result<Option<&'static str>> {
-    for rows in [
-        &rows::REQUESTS[..],
-        &rows::WRITING[..],
-        &rows::LIMITS[..],
-        &rows::STRANGERS[..],
-        &queues::FULL_QUEUES[..],
-        &queues::LATE_ANSWERS[..],
-        &leaving::PLACES[..],
-        &leaving::SERVERS[..],
-        &leaving::CLIENTS[..],
-        &pools::POOLS[..],
-        &slices::SLICES[..],
-        &questions::HANDLES[..],
-        &questions::QUEUES[..],
-        &rewriting::ELEMENTS[..],
-        &rewriting::HEADERS[..],
-        &defaults::WRITTEN[..],
-        &defaults::REFUSED[..],
-        &defaults::SLICES[..],
-        &turns::TURNS[..],
-    ] {
+    for rows in ROWS {
         if let Some(name) = failing(alloc, rows, 0, side)? {
             return Ok(Some(name));
         }

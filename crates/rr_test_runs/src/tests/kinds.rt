@@ -97,7 +97,7 @@ update N: client server
 drop N: client server uninit-request request pending active uninit-response response-mut received
 ";
 
-/// A line of `CALLS`: what stands before and after the number, and the kinds that have the call.
+/// A line of `CALLS`: the text before and after the number, and the kinds that have the call.
 #[derive(Clone, Copy)]
 struct Call<'a> {
     word: &'a str,
@@ -105,7 +105,7 @@ struct Call<'a> {
     kinds: &'a str,
 }
 
-/// Returns what a line of `CALLS` says, or `None` if it is none.
+/// Parses a line of `CALLS`. Returns `None` if it is none.
 fn call_of(line: &str) -> Option<Call> {
     let (command, kinds) = line.split_once(": ")?;
     let (word, rest) = command.split_once(" N")?;
@@ -144,8 +144,8 @@ fn is_of_its_kinds(alloc: Global, call: Call) -> Result<bool, AllocError> {
     is_replied(alloc, "", call, "9", "refused Unknown\n")
 }
 
-/// Returns the first line of `CALLS` that is none, or whose call other kinds have than it says, or a number that was never
-/// given.
+/// Returns the first line of `CALLS` that is none, or whose call other kinds have than it says, or a number that was
+/// never given.
 fn failing_call(alloc: Global) -> Result<Option<&'static str>, AllocError> {
     for line in CALLS.lines() {
         match call_of(line) {

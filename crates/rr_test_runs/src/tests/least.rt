@@ -1,4 +1,4 @@
-//! The least pool of a client, as the program tells it.
+//! The least pool of a client, as the program prints it.
 use super::scripts::served;
 use std::alloc::{AllocError, Global};
 
@@ -140,7 +140,7 @@ error OutOfMemory
     },
 ];
 
-/// Words and inputs that are none, a hub that isn't made, and lines that nobody looks at.
+/// Invalid arguments and inputs, a hub that isn't made, and lines that are not read.
 pub(super) const EDGES: [PoolRow; 9] = [
     PoolRow {
         words: "least",

@@ -10,7 +10,7 @@ fn is_end(ended: &Ended, status: u8, output: &str, fault: &str) -> bool {
         && ended.fault.as_slice() == fault.as_bytes()
 }
 
-/// A script with a bad line, what is printed before it, and its fault.
+/// A script with a bad line, the output before it, and its fault.
 #[derive(Clone, Copy)]
 struct BadLine {
     input: &'static str,
@@ -96,7 +96,8 @@ struct Bytes {
     fault: &'static str,
 }
 
-/// No line at all, a last line without a line feed, a lone carriage return, one before the end, and a byte that is not UTF-8.
+/// No line at all, a last line without a line feed, a lone carriage return, one before the end, and a byte that is
+/// not UTF-8.
 const ENDINGS: [Bytes; 5] = [
     Bytes {
         input: b"",

@@ -2,8 +2,8 @@
 use super::scripts::{PORTS, Story, served, told};
 use std::alloc::{AllocError, Global};
 
-/// What follows the creation of a client 0 and a server 1: a pending response 2, an active request 3, a response 4 that was
-/// received, and a response 5 on loan.
+/// The commands after the creation of a client 0 and a server 1: they make a pending response 2, an active request 3,
+/// a response 4 that was received, and a response 5 on loan.
 const HANDLES: &str = "\
 copy 0 1 -> pending 2 1
 recv 1 -> active 3 2
@@ -12,7 +12,7 @@ recv 2 -> response 4
 loan 3 1 -> loaned 5
 ";
 
-/// What follows the last release: nothing is left, and every place is free.
+/// The commands after the last release, which show that nothing is left, and every place is free.
 const AFTERWARDS: &str = "\
 drop 0 -> refused Unknown
 drop 1 -> refused Unknown

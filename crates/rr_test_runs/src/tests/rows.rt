@@ -1,4 +1,4 @@
-//! Scripts of what the ports do.
+//! Scripts of the ports' behaviour.
 use super::scripts::{BASE_PATH, CLIENT, HUB, PORTS, Row, ends, failing};
 
 /// Requests that are answered, received, or wait for nobody.
@@ -149,7 +149,7 @@ data 4 -> data 5
     },
 ];
 
-/// Limits on what is on loan, waited for, or borrowed.
+/// Limits on loans, pending responses and borrows.
 pub(super) const LIMITS: [Row; 6] = [
     Row {
         name: "a client loans no more than it may",
@@ -236,7 +236,7 @@ loan 2 1 -> loaned 3
     },
 ];
 
-/// What is refused before a command acts.
+/// Commands that are refused before they act.
 pub(super) const STRANGERS: [Row; 3] = [
     Row {
         name: "a number that names nothing is unknown",

@@ -1,14 +1,14 @@
 //! Calls of a runner that no script reaches: kinds, lists of commands, and handlers of full queues.
-use rr_commands::{Command, Reply};
 use rr_protocol::{
     BackpressureAction, BackpressureFn, BackpressureInfo, BackpressureStrategy, ClientSettings,
-    Kind, Limits, ReceiveError, RequestSendError, SendError, ServerSettings, UniqueNodeId,
+    Command, Kind, Limits, ReceiveError, Reply, RequestSendError, SendError, ServerSettings,
+    UniqueNodeId,
 };
 use rr_run::{Runner, run};
 use std::alloc::{AllocError, Global};
 use std::test::Fail;
 
-/// Does as it is told at a full queue to port 2, and refuses at every other.
+/// Returns its action at a full queue to port 2, and refuses at every other.
 #[derive(Clone, Copy)]
 struct AtPortTwo {
     action: BackpressureAction,
@@ -77,7 +77,8 @@ fn last_replies(
     Ok((before, last))
 }
 
-/// Carries out a list of commands on a new runner of these limits. Returns the replies, after one that was there.
+/// Carries out a list of commands on a new runner of these limits. Returns the replies, after one that was in the
+/// list before.
 fn replies_to(
     alloc: Global,
     limits: Limits,
@@ -128,8 +129,8 @@ fn commands_are_carried_out_in_turn(rt: HostRuntime) -> Result<(), Fail> {
     Ok(())
 }
 
-/// Lets a client send a third request to two servers, of which the queue to port 2 is full. Returns the reply, and what port
-/// 1 receives then, which holds as many requests as it may.
+/// Makes a client send a third request to two servers, of which the queue to port 2 is full. Returns the reply, and
+/// the result of a receive by port 1, which is at its borrow limit.
 fn third_request(
     alloc: Global,
     strategy: BackpressureStrategy,
@@ -204,7 +205,8 @@ fn a_handler_that_follows_leaves_it_to_the_strategy(rt: HostRuntime) -> Result<(
     Ok(())
 }
 
-/// A server that discards, but whose handler refuses, sends a second response to a queue of one, from which the first was not received.
+/// A server that discards, but whose handler refuses, sends a second response to a queue of one, from which the first
+/// was not received.
 fn second_response(alloc: Global) -> Result<Vec<TypedCommand>, AllocError> {
     let refuses = AtPortTwo {
         action: BackpressureAction::DiscardData,

@@ -2,7 +2,8 @@
 use rr_script::serve_alone;
 use std::alloc::{AllocError, Global};
 
-/// Two clients, one server, two loaned and two active requests, two queued and one borrowed response; a client and a server.
+/// Two clients, one server, two loaned and two active requests, two queued and one borrowed response; a client and a
+/// server.
 pub(super) const PORTS: &str = "\
 hub typed 2 1 2 2 2 1 - 1 1 -> done
 client discard 1 static - -> created 0
@@ -78,7 +79,7 @@ pub(super) fn words(alloc: Global, line: &str) -> Result<Vec<String>, AllocError
     Ok(words)
 }
 
-/// What a program did.
+/// The status and the output of a program.
 #[derive(Drop)]
 pub(super) struct Ended {
     pub(super) status: u8,

@@ -1,4 +1,4 @@
-//! Scripts of receives that go round.
+//! Scripts of round-robin receives.
 use super::scripts::{Row, failing};
 
 /// Receives of a server from several clients, and of a client from several servers.

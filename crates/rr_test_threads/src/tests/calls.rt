@@ -1,4 +1,5 @@
-//! The calls of the typed family that no other scene makes: what is written, changed and read in place, and what is asked of handles.
+//! The calls of the typed family that no other scene makes: writes, changes and reads in place, and queries of
+//! handles.
 use super::worker::{Active, Pending, Ports, Worker, given_back, made};
 use rr_ports::ReceiveError;
 use rr_shared_ports::typed::{Client, Response, Server};
@@ -25,9 +26,9 @@ fn tenfold(value: &u64) -> u64 {
     value.wrapping_mul(10)
 }
 
-/// What the client does.
+/// The client's calls.
 impl<N: Naming, R: Abort + Wait + Clock> Worker<'_, N, R> {
-    /// Asks in each way, and tells 4 and 5. Returns the sum of the answers.
+    /// Asks in each way, and sends 4 and 5 without waiting. Returns the sum of the answers.
     pub fn make_each_call(&mut self, ports: &Ports<N>) -> u64 {
         assert_eq!(self.rt; ports.client.id().0, 0);
         self.set_hint(&ports.pending);
@@ -73,7 +74,8 @@ impl<N: Naming, R: Abort + Wait + Clock> Worker<'_, N, R> {
         pending.receive_timeout(self.hub, self.rt, &mut self.seat, most)
     }
 
-    /// Loans a request, is refused to send it since it has no payload, and sends 5. Adds one to it, and twice one to its header.
+    /// Loans a request, is refused to send it since it has no payload, and sends 5. Adds one to it, and twice one to
+    /// its header.
     fn send_changed_request(&mut self, client: &Client<N, u64>) -> Pending<N> {
         let request = self.loan_request(client);
         let early = request.assume_init(self.hub, self.rt, &mut self.seat);
@@ -96,7 +98,7 @@ impl<N: Naming, R: Abort + Wait + Clock> Worker<'_, N, R> {
         )
     }
 
-    /// Reads a response in place and by value. Returns what it says.
+    /// Reads a response in place and by value. Returns its number.
     fn said(&mut self, response: Response<N, u64>) -> u64 {
         let read = response.read(self.hub, self.rt, &mut self.seat, tenfold);
         let copied = response.payload_copy(self.hub, self.rt, &mut self.seat);
@@ -114,7 +116,7 @@ impl<N: Naming, R: Abort + Wait + Clock> Worker<'_, N, R> {
         }
     }
 
-    /// Asks by a request of the default value. Returns the answer, as soon as it is there.
+    /// Asks by a request of the default value. Returns the answer, as soon as it is queued.
     fn ask_default(&mut self, client: &Client<N, u64>) -> u64 {
         let loaned = client.loan(self.hub, self.rt, &mut self.seat);
         let request = loaned.expect(self.rt, "a request is loaned");
@@ -126,7 +128,7 @@ impl<N: Naming, R: Abort + Wait + Clock> Worker<'_, N, R> {
         said.unwrap_or(None).expect(self.rt, "a response is there")
     }
 
-    /// Asks for what is made of 7. Returns what the answers come to.
+    /// Asks for the answer to 7. Returns the sum of the answers.
     fn ask_copy(&mut self, client: &Client<N, u64>) -> u64 {
         let pending = self.ask(client, 7);
         self.until_answered(&pending);
@@ -136,9 +138,9 @@ impl<N: Naming, R: Abort + Wait + Clock> Worker<'_, N, R> {
     }
 }
 
-/// What the server does.
+/// The server's calls.
 impl<N: Naming, R: Abort + Wait + Clock> Worker<'_, N, R> {
-    /// Answers in each way. Returns the sum of what is asked and told.
+    /// Answers in each way. Returns the sum of the received numbers.
     pub fn answer_each_call(&mut self, ports: &Ports<N>) -> u64 {
         assert_eq!(self.rt; ports.server.id().0, 1);
         let changed = self.answer_changed(&ports.server);
@@ -156,7 +158,8 @@ impl<N: Naming, R: Abort + Wait + Clock> Worker<'_, N, R> {
             .wrapping_add(told)
     }
 
-    /// Answers with ten times a request's value, and its header, by a response that is changed in place. Returns what was asked.
+    /// Answers with ten times a request's value, and its header, by a response that is changed in place. Returns the
+    /// request's number.
     fn answer_changed(&mut self, server: &Server<N, u64>) -> u64 {
         let soon = Duration::from_secs(SOON);
         let heard = server.receive_timeout(self.hub, self.rt, &mut self.seat, soon);
@@ -192,7 +195,8 @@ impl<N: Naming, R: Abort + Wait + Clock> Worker<'_, N, R> {
         )
     }
 
-    /// Loans a response, is refused to send it since it has no payload, and sends a value. Adds one to it, and twice one to its header.
+    /// Loans a response, is refused to send it since it has no payload, and sends a value. Adds one to it, and twice
+    /// one to its header.
     fn send_changed_response(&mut self, active: &Active<N>, value: u64) {
         let response = self.loan_response(active);
         let early = response.assume_init(self.hub, self.rt, &mut self.seat);
@@ -205,7 +209,7 @@ impl<N: Naming, R: Abort + Wait + Clock> Worker<'_, N, R> {
         made(self.rt, tried);
     }
 
-    /// Answers a request with ten times its value, which is read in place. Returns what was asked.
+    /// Answers a request with ten times its value, which is read in place. Returns the request's number.
     fn answer_made(&mut self, server: &Server<N, u64>) -> u64 {
         let active = self.hear(server).expect(self.rt, "a request comes");
         let read = active.read(self.hub, self.rt, &mut self.seat, tenfold);
@@ -217,7 +221,7 @@ impl<N: Naming, R: Abort + Wait + Clock> Worker<'_, N, R> {
         asked
     }
 
-    /// Answers a request with the default value. Returns what was asked.
+    /// Answers a request with the default value. Returns the request's number.
     fn answer_default(&mut self, server: &Server<N, u64>) -> u64 {
         let active = self.hear(server).expect(self.rt, "a request comes");
         let loaned = active.loan(self.hub, self.rt, &mut self.seat);
@@ -238,7 +242,7 @@ impl<N: Naming, R: Abort + Wait + Clock> Worker<'_, N, R> {
         }
     }
 
-    /// Receives two numbers that are told. Returns their sum.
+    /// Receives two numbers that clients send without waiting. Returns their sum.
     fn told(&mut self, server: &Server<N, u64>) -> u64 {
         self.until_asked(server);
         let told = server.receive_copy(self.hub, self.rt, &mut self.seat);

@@ -37,7 +37,8 @@ pub fn release_both<N: Naming, R: Wait, H: Ports, A: Release<H>, B: Release<H>>(
     other.release(hub, rt, seat);
 }
 
-/// Receives a response. Calls that the client has seen by then loaned it from an active request of this request, and sent it.
+/// Receives a response. Calls that the client has seen by then loaned it from an active request of this request, and
+/// sent it.
 fn received<
     N: Naming,
     R: Wait,
@@ -52,7 +53,9 @@ fn received<
     seat: &mut rr_shared_ports::Seat<N, Hub<QB, QH, PB, PH, K>>,
     pending: &Claimed<N, rr_ports::PendingResponse<QB>>,
 ) -> Result<Option<Claimed<N, rr_ports::Response<PB>>>, ReceiveError>
-    ensures { IfOk result (λ came. IfSome came (λ response. WasAnswered K.action QH.is_default PH.is_default (empty_hub N.limits N.node_id) seat.new.1 pending.now response)) }
+    ensures { IfOk result (λ came. IfSome came (λ response.
+        WasAnswered K.action QH.is_default PH.is_default (empty_hub N.limits N.node_id) seat.new.1 pending.now
+        response)) }
 {
     let received = pending.receive(hub, rt, seat);
     hub.legal(seat);
@@ -130,7 +133,7 @@ impl<N: Naming, R: Abort + Wait> Worker<'_, N, R> {
         answered
     }
 
-    /// Makes a second server, which hears one request, gives up, and releases what it has.
+    /// Makes a second server, which receives one request, gives up, and releases all it has.
     pub fn hear_and_leave(&mut self) {
         let server = self.server();
         if let Some(active) = self.hear(&server) {

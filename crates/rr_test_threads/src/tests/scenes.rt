@@ -83,10 +83,10 @@ impl<N: Naming, R: Abort + Wait + Clock> Worker<'_, N, R> {
     }
 }
 
-/// What a client's thread and a server's count.
+/// The counts of a client's thread and a server's.
 type Counted = (u64, u64);
 
-/// Lets two threads make each call. Returns what they count.
+/// Runs two threads that make each call. Returns their counts.
 fn call<N: Naming, R: Abort + Threads + Wait + Clock + Sync>(
     rt: &R,
     hub: &Shared<N>,
@@ -99,7 +99,8 @@ fn call<N: Naming, R: Abort + Threads + Wait + Clock + Sync>(
     )
 }
 
-/// Lets two threads exchange numbers, while a second server hears one request and leaves without an answer. Returns what they count.
+/// Runs two threads that exchange numbers, while a second server receives one request and leaves without an answer.
+/// Returns their counts.
 fn exchange<N: Naming, R: Abort + Threads + Wait + Clock + Sync>(
     rt: &R,
     hub: &Shared<N>,
@@ -117,7 +118,7 @@ fn exchange<N: Naming, R: Abort + Threads + Wait + Clock + Sync>(
     (asked, served)
 }
 
-/// Makes ports, plays both scenes, and releases the ports. Returns what the threads counted.
+/// Makes ports, plays both scenes, and releases the ports. Returns the threads' counts.
 fn played<N: Naming, R: Abort + Threads + Wait + Clock + Sync>(
     rt: &R,
     opened: Numbers,

@@ -21,7 +21,7 @@ type Shared<N> = SharedPorts<N, u64, u64, u64, u64>;
 
 type Caller<N> = Seat<N, u64, u64, u64, u64>;
 
-/// What the elements of the requests come to, and those of the responses.
+/// The sums of the requests' elements, and of the responses' elements.
 const SUMS: [(u64, u64); 6] = [(6, 13), (15, 12), (3, 7), (9, 9), (15, 17), (14, 10)];
 
 /// Adds up a slice.
@@ -55,7 +55,7 @@ fn pushed<N: Naming, R: Wait>(
     request.push(hub, rt, seat, 4).err()
 }
 
-/// A thread's runtime, its hub and its seat there.
+/// A thread's runtime, its hub and its seat at the hub.
 #[derive(Drop)]
 struct Worker<'a, N: Naming, R> {
     rt: &'a R,
@@ -74,7 +74,7 @@ impl<'a, N: Naming, R> Worker<'a, N, R> {
     }
 }
 
-/// What the client does.
+/// The client's calls.
 impl<N: Naming, R: Abort + Wait> Worker<'_, N, R> {
     /// Sends requests that are written in each way, and checks the responses.
     fn ask_each(&mut self, client: &Client<N, u64>) {
@@ -136,7 +136,7 @@ impl<N: Naming, R: Abort + Wait> Worker<'_, N, R> {
         )
     }
 
-    /// Waits for a response. Returns what its elements come to.
+    /// Waits for a response. Returns the sum of its elements.
     fn answered(&mut self, pending: &PendingResponse<N, u64>) -> u64 {
         match pending.receive_wait(self.hub, self.rt, &mut self.seat) {
             Ok(Some(response)) => {
@@ -149,7 +149,7 @@ impl<N: Naming, R: Abort + Wait> Worker<'_, N, R> {
     }
 }
 
-/// What the server does.
+/// The server's calls.
 impl<N: Naming, R: Abort + Wait> Worker<'_, N, R> {
     /// Checks requests, and sends responses that are written in each way.
     fn answer_each(&mut self, server: &Server<N, u64>) {

@@ -14,7 +14,7 @@ use std::thread;
 use std::thread::Threads;
 use std::time::{Clock, Duration};
 
-/// What a thread waits for.
+/// The event that a thread waits for.
 #[derive(Clone, Copy, Debug)]
 enum Awaited {
     /// A request, at a server.
@@ -29,7 +29,7 @@ enum Awaited {
     RoomToAnswer,
 }
 
-/// What the other thread changes.
+/// The other thread's change.
 #[derive(Clone, Copy, Debug, PartialEq)]
 enum Change {
     RequestQueued,
@@ -84,7 +84,7 @@ const WAITS: u64 = 3;
 
 const IS_WOKEN: u64 = 4;
 
-/// The waits. Each returns whether it ended as it should: by a close, or else with what it waits for.
+/// The waits. Each returns whether it ended as expected: by a close, or with the awaited event.
 impl<N: Naming, R: Abort + Wait> Worker<'_, N, R> {
     fn wait_to_hear(&mut self, server: &Server<N, u64>, change: Change, stage: &AtomicU64) -> bool {
         stage.store(WAITS, Ordering::SeqCst);

@@ -1,4 +1,5 @@
-//! A thread at a hub of the typed family, with a function for each call that several scenes make. What a call refuses ends the test.
+//! A thread at a hub of the typed family, with a function for each call that several scenes make. A refused call ends
+//! the test.
 use rr_ports::{BackpressureStrategy, Refused};
 use rr_shared_ports::Naming;
 use rr_shared_ports::typed::{
@@ -23,7 +24,7 @@ pub type Pending<N> = PendingResponse<N, u64>;
 /// A request that was received, at its server.
 pub type Active<N> = ActiveRequest<N, u64>;
 
-/// A client and a server, a request, and what the server received of it.
+/// A client and a server, a request, and the active request that the server received.
 pub struct Ports<N: Naming> {
     pub client: Client<N, u64>,
     pub server: Server<N, u64>,
@@ -31,7 +32,7 @@ pub struct Ports<N: Naming> {
     pub active: Active<N>,
 }
 
-/// Returns what a call made. It must not be refused.
+/// Returns the handle that a call made. The call must not be refused.
 pub fn made<R: Abort, T, M, E>(rt: &R, came: Result<T, Refused<M, E>>) -> T {
     match came {
         Ok(it) => it,
@@ -54,7 +55,7 @@ pub fn given_back<R: Abort, T, M, E: PartialEq + Drop>(
     }
 }
 
-/// A thread's runtime, its hub and its seat there.
+/// A thread's runtime, its hub and its seat at the hub.
 #[derive(Drop)]
 pub struct Worker<'a, N: Naming, R> {
     pub rt: &'a R,
@@ -140,7 +141,7 @@ impl<N: Naming, R: Abort + Wait> Worker<'_, N, R> {
         server.receive_wait(self.hub, self.rt, &mut self.seat).ok()
     }
 
-    /// Returns what a request says.
+    /// Returns a request's number.
     pub fn asked(&mut self, active: &Active<N>) -> u64 {
         active.payload_copy(self.hub, self.rt, &mut self.seat)
     }
@@ -166,7 +167,7 @@ impl<N: Naming, R: Abort + Wait> Worker<'_, N, R> {
         response.write_payload(self.hub, self.rt, &mut self.seat, value)
     }
 
-    /// Waits for a response. Returns what it says, or `None` if none can come.
+    /// Waits for a response. Returns its number, or `None` if none can arrive.
     pub fn take(&mut self, pending: &Pending<N>) -> Option<u64> {
         match pending.receive_wait(self.hub, self.rt, &mut self.seat) {
             Ok(Some(response)) => Some(response.into_payload(self.hub, self.rt, &mut self.seat)),

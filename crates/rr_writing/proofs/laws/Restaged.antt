@@ -4,9 +4,9 @@ use Rattle.std.specs.Prelude.{◌&&◌, ◌==◌, IfSome, count_by}
 use Rattle.std.specs.Option.{option_map_or}
 use Rattle.std.specs.FinMap as fin_map
 use Rattle.std.proofs.lemmas.Bool.{cases_lt}
-use Rattle.rr_map_laws.specs.Maps.{mark}
+use Rattle.rr_table.specs.Maps.{mark}
 use Rattle.rr_table.specs.TableView.{TableEntry, TableView, table_entry, inserted, removed, value_at}
-use Rattle.rr_map_laws.proofs.MapLaws.{get-remove_same, insert-remove, map_values-insert}
+use Rattle.rr_table.proofs.MapLaws.{get-remove_same, insert-remove, map_values-insert}
 use Rattle.rr_protocol.specs.Messages.{Handle}
 use Rattle.rr_protocol.specs.State.{with_changed}
 use Rattle.rr_store.specs.declared.handle_entry.HandleEntry.{HandleEntry}

@@ -8,7 +8,7 @@ use Rattle.rr_slots.specs.Pools.{Written, written}
 use Rattle.rr_table.specs.TableView.{table_entry}
 use Rattle.rr_table.specs.declared.place.Place.{Place}
 use Rattle.rr_sender.specs.Senders.{with_changed_at}
-use Rattle.rr_map_laws.proofs.MapLaws.{get-insert_same}
+use Rattle.rr_table.proofs.MapLaws.{get-insert_same}
 use Rattle.rr_protocol.specs.declared.kind.Kind.{Kind}
 use Rattle.rr_protocol.specs.Messages.{ActiveRequest, Content, Handle, PendingResponse, RequestMut, RequestMutUninit, Response, ResponseMut, ResponseMutUninit, request_in, response_in}
 use Rattle.rr_protocol.specs.Queries.{kind_at}

@@ -3,8 +3,8 @@ use Rattle.std.specs.Prelude.{◌==◌}
 use Rattle.std.proofs.lemmas.Bool.{ne_eqb}
 use Rattle.rr_protocol.specs.declared.kind.Kind.TheVariants as kind
 use Rattle.rr_protocol.specs.Receives.{ReceivesRequest}
-use Rattle.rr_commands.specs.declared.command.Command.{Command}
-use Rattle.rr_commands.specs.declared.reply.Reply.{Reply}
+use Rattle.rr_protocol.specs.declared.command.Command.{Command}
+use Rattle.rr_protocol.specs.declared.reply.Reply.{Reply}
 use Rattle.rr_checked.proofs.Steps.{step_acts, receive_due}
 use Rattle.rr_checked.proofs.Receiving.{active_there}
 use Rattle.rr_checked.proofs.receives.receive_request.Goals as goal

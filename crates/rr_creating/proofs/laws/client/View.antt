@@ -6,7 +6,7 @@ use Rattle.std.specs.FinMap as fin_map
 use Rattle.std.proofs.lemmas.Option.{get_or_from_slice_get}
 use Rattle.std.proofs.lemmas.List.{map-append}
 use Rattle.rr_table.specs.TableView.{TableEntry}
-use Rattle.rr_map_laws.proofs.MapLaws.{map_values-same}
+use Rattle.rr_table.proofs.MapLaws.{map_values-same}
 use Rattle.rr_sender.specs.Senders.{Messages, queue_at}
 use Rattle.rr_protocol.specs.declared.settings.ClientSettings.{ClientSettings}
 use Rattle.rr_protocol.specs.Keys.{RequestKey, ResponseKey}

@@ -6,9 +6,9 @@ use Rattle.std.specs.FinMap as fin_map
 use Rattle.std.proofs.lemmas.Bool.{le-leb, lt-leb, and_parts, eqb-true, eq-eqb, false_from_ne_true, false≢true}
 use Rattle.std.proofs.lemmas.Option.{slice_get_within, get_or_from_slice_get}
 use Rattle.rr_table.specs.TableView.{TableEntry}
-use Rattle.rr_map_laws.proofs.ListFacts.{any-map}
-use Rattle.rr_map_laws.proofs.MapLaws.{get-map_values, tally-at}
-use Rattle.rr_map_laws.proofs.Members.{entry_gives}
+use Rattle.rr_table.proofs.ListFacts.{any-map}
+use Rattle.rr_table.proofs.MapLaws.{get-map_values, tally-at}
+use Rattle.rr_table.proofs.Members.{entry_gives}
 use Rattle.rr_slots.specs.declared.pool.AcquireError.{AcquireError}
 use Rattle.rr_sender.specs.Senders.{times, all_entries, used_count}
 use Rattle.rr_table.specs.declared.place.Place.{Place}

@@ -3,9 +3,9 @@ use Rattle.std.proofs.Common.{◌≡◌, ◌<◌, ◌+◌, ◌^◌, ℕ, [], ◌
 use Rattle.std.specs.Prelude.{◌==◌, ◌&&◌, slice_get}
 use Rattle.std.specs.FinMap as fin_map
 use Rattle.std.proofs.lemmas.Bool.{false≢true, eq-eqb}
-use Rattle.rr_map_laws.specs.Maps.{mark}
+use Rattle.rr_table.specs.Maps.{mark}
 use Rattle.rr_table.specs.TableView.{TableEntry, table_entry, inserted, removed}
-use Rattle.rr_map_laws.proofs.MapLaws.{get-insert_other, get-remove_same, get-remove_other, insert-remove, tally-remove}
+use Rattle.rr_table.proofs.MapLaws.{get-insert_other, get-remove_same, get-remove_other, insert-remove, tally-remove}
 use Rattle.rr_sender.specs.Senders.{times, all_entries}
 use Rattle.rr_store.specs.declared.handle_entry.HandleEntry.{HandleEntry}
 use Rattle.rr_store.specs.declared.handle_entry.Stage.TheVariants as stage

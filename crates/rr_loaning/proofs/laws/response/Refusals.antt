@@ -4,7 +4,7 @@ use Rattle.std.specs.Prelude.{◌==◌, ◌||◌, if◌then◌else◌, IsSomeAnd
 use Rattle.std.specs.FinMap as fin_map
 use Rattle.std.proofs.lemmas.Bool.{le-leb, lt-leb, eqb-true, eq-eqb}
 use Rattle.rr_table.specs.TableView.{TableEntry}
-use Rattle.rr_map_laws.proofs.MapLaws.{get-map_values}
+use Rattle.rr_table.proofs.MapLaws.{get-map_values}
 use Rattle.rr_slots.specs.declared.pool.AcquireError.{AcquireError}
 use Rattle.rr_sender.specs.Senders.{times, all_entries, used_count}
 use Rattle.rr_table.specs.declared.place.Place.{Place}

@@ -5,7 +5,7 @@ use Rattle.std.specs.FinMap as fin_map
 use Rattle.std.proofs.lemmas.Bool.{cases_lt, ne_eqb}
 use Rattle.std.proofs.lemmas.List.{get_or-set_same, get_or-set_other, length-set}
 use Rattle.std.proofs.lemmas.Option.{slice_get_within, get_or_from_slice_get}
-use Rattle.rr_map_laws.specs.Maps.{tally, mark}
+use Rattle.rr_table.specs.Maps.{tally, mark}
 use Rattle.rr_table.specs.TableView.{TableEntry}
 use Rattle.rr_sender.specs.Senders.{Messages, times, queue_at, borrowed_at, all_entries, loaned}
 use Rattle.rr_protocol.specs.Limits.{worst_case_requests}

@@ -7,8 +7,8 @@ use Rattle.std.proofs.lemmas.Bool.{cases_eq}
 use Rattle.std.proofs.lemmas.List.{get_or-set_same, get_or-set_other}
 use Rattle.std.proofs.lemmas.Option.{get_or_from_slice_get, slice_get_within}
 use Rattle.rr_table.specs.TableView.{TableEntry, table_entry}
-use Rattle.rr_map_laws.specs.Maps.{map_values}
-use Rattle.rr_map_laws.proofs.MapLaws.{get-map_values, insert_itself, map_values-insert, map_values-same}
+use Rattle.rr_table.specs.Maps.{map_values}
+use Rattle.rr_table.proofs.MapLaws.{get-map_values, insert_itself, map_values-insert, map_values-same}
 use Rattle.rr_sender.specs.Senders.{Messages, times, queue_at, all_entries, loaned, content_at}
 use Rattle.rr_slots.specs.Pools.{nothing_written}
 use Rattle.rr_protocol.specs.Keys.{ResponseKey}

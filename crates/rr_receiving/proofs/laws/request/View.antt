@@ -11,8 +11,8 @@ use Rattle.std.proofs.lemmas.Cmp.{eq_by_cmp_equiv}
 use Rattle.std.proofs.lemmas.List.{get_or-set_same, length-set}
 use Rattle.std.proofs.lemmas.Option.{slice_get-get_or, get_or_from_slice_get, slice_get_within}
 use Rattle.rr_table.specs.TableView.{TableEntry, table_entry}
-use Rattle.rr_map_laws.specs.Maps.{map_values}
-use Rattle.rr_map_laws.proofs.MapLaws.{map_values-insert, map_values-same}
+use Rattle.rr_table.specs.Maps.{map_values}
+use Rattle.rr_table.proofs.MapLaws.{map_values-insert, map_values-same}
 use Rattle.rr_sender.specs.Senders.{Messages, queue_at, borrowed_at, set_two}
 use Rattle.rr_sender.proofs.EntryLaws.{at_two-set_two}
 use Rattle.rr_protocol.specs.Keys.{RequestKey, request_key, request_key_cmp}

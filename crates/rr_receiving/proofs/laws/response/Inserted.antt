@@ -4,7 +4,7 @@ use Rattle.std.specs.Prelude.{slice_get, slice_index}
 use Rattle.std.specs.FinMap as fin_map
 use Rattle.std.proofs.lemmas.Bool.{false≢true, eq-eqb}
 use Rattle.rr_table.specs.TableView.{TableEntry}
-use Rattle.rr_map_laws.proofs.MapLaws.{tally-at}
+use Rattle.rr_table.proofs.MapLaws.{tally-at}
 use Rattle.rr_sender.specs.Senders.{times, all_entries}
 use Rattle.rr_sender.proofs.EntryLaws.{times-first}
 use Rattle.rr_protocol.specs.Limits.{worst_case_requests}

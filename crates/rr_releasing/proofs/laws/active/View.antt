@@ -5,7 +5,7 @@ use Rattle.std.specs.Option.{option_map_or}
 use Rattle.std.specs.FinMap as fin_map
 use Rattle.std.proofs.lemmas.Bool.{cases_eq, eq-eqb, ne_eqb}
 use Rattle.rr_table.specs.TableView.{TableEntry, removed}
-use Rattle.rr_map_laws.proofs.MapLaws.{get-map_values, get-remove_cases, map_values-same, map_values-but}
+use Rattle.rr_table.proofs.MapLaws.{get-map_values, get-remove_cases, map_values-same, map_values-but}
 use Rattle.rr_protocol.specs.Messages.{Handle, RequestMessage, RequestMutUninit, RequestMut, PendingResponse, ActiveRequest}
 use Rattle.rr_protocol.specs.Releases.{without_server}
 use Rattle.rr_protocol.specs.State.{State, with_changed}

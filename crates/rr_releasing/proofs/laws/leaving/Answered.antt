@@ -6,8 +6,8 @@ use Rattle.std.specs.List.{AllByRecursion, list_any}
 use Rattle.std.proofs.lemmas.Bool.{and_parts, cases_eq, eq-eqb, eqb-true, false≢true, lt-ltb, ne_eqb}
 use Rattle.std.proofs.lemmas.List.{length-map, map-append, take-map}
 use Rattle.std.proofs.lemmas.Option.{get_or_from_slice_get, slice_get-get_or}
-use Rattle.rr_map_laws.proofs.ListFacts.{all_append, all_filter, any-map}
-use Rattle.rr_map_laws.proofs.Members.{any_gives, any_there}
+use Rattle.rr_table.proofs.ListFacts.{all_append, all_filter, any-map}
+use Rattle.rr_table.proofs.Members.{any_gives, any_there}
 use Rattle.rr_sender.specs.Senders.{queue_at}
 use Rattle.rr_protocol.specs.Keys.{ResponseKey}
 use Rattle.rr_protocol.specs.Lists.{at}

@@ -9,10 +9,10 @@ use Rattle.std.proofs.lemmas.Bool.{and_from, and_parts, cases_lt, eq-eqb, eqb-tr
 use Rattle.std.proofs.lemmas.List.{get_or_past}
 use Rattle.std.proofs.lemmas.List.Folds.{list_any_at}
 use Rattle.std.proofs.lemmas.Option.{get_or_from_slice_get, slice_get_within}
-use Rattle.rr_map_laws.specs.Maps.{mark, tally}
-use Rattle.rr_map_laws.proofs.Counting.{count-cons}
-use Rattle.rr_map_laws.proofs.MapLaws.{tally-at}
-use Rattle.rr_map_laws.proofs.Members.{any_gives, any_there, tally_gives}
+use Rattle.rr_table.specs.Maps.{mark, tally}
+use Rattle.rr_table.proofs.Counting.{count-cons}
+use Rattle.rr_table.proofs.MapLaws.{tally-at}
+use Rattle.rr_table.proofs.Members.{any_gives, any_there, tally_gives}
 use Rattle.rr_sender.specs.Senders.{borrowed_at}
 use Rattle.rr_store.specs.Leaving.{is_borrowing}
 use Rattle.rr_store.specs.Order.{IsRising}

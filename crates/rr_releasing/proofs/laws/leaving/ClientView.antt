@@ -8,7 +8,7 @@ use Rattle.std.specs.FinMap.{nat_cmp-IsAntisymmetric}
 use Rattle.std.proofs.lemmas.Bool.{and_parts, cases_eq, eqb-true, ne_eqb}
 use Rattle.std.proofs.lemmas.List.{append-nil, map-append}
 use Rattle.std.proofs.lemmas.List.Elements.{filter-append, filter_agree}
-use Rattle.rr_map_laws.proofs.MapLaws.{map_values-same, tied_other, tied_same}
+use Rattle.rr_table.proofs.MapLaws.{map_values-same, tied_other, tied_same}
 use Rattle.rr_table.specs.TableView.{TableEntry}
 use Rattle.rr_protocol.specs.Keys.{RequestKey, ResponseKey}
 use Rattle.rr_protocol.specs.Lists.{at, with_at}

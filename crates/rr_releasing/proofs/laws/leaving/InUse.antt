@@ -7,9 +7,9 @@ use Rattle.std.specs.Option.{option_map_or}
 use Rattle.std.specs.FinMap as fin_map
 use Rattle.std.proofs.Math.Bool.{or-false}
 use Rattle.std.proofs.lemmas.Bool.{and_from, and_left, and_parts, eq-eqb, lt-ltb, ltb-true, ne_eqb, or_parts}
-use Rattle.rr_map_laws.specs.Maps.{tally}
-use Rattle.rr_map_laws.proofs.MapLaws.{tally-at, tally-le}
-use Rattle.rr_map_laws.proofs.Members.{tally_gives}
+use Rattle.rr_table.specs.Maps.{tally}
+use Rattle.rr_table.proofs.MapLaws.{tally-at, tally-le}
+use Rattle.rr_table.proofs.Members.{tally_gives}
 use Rattle.rr_table.specs.TableView.{TableEntry}
 use Rattle.rr_sender.specs.Senders.{borrowed_at}
 use Rattle.rr_protocol.specs.Counts.{is_in_use}

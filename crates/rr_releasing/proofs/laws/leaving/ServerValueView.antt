@@ -7,7 +7,7 @@ use Rattle.std.proofs.lemmas.List.{map-id}
 use Rattle.std.proofs.lemmas.Bool.{eq-eqb, ne_eqb}
 use Rattle.std.proofs.lemmas.Option.{get_or_from_slice_get}
 use Rattle.rr_table.specs.TableView.{TableEntry}
-use Rattle.rr_map_laws.proofs.MapLaws.{map_values-same}
+use Rattle.rr_table.proofs.MapLaws.{map_values-same}
 use Rattle.rr_sender.specs.Senders.{queue_at}
 use Rattle.rr_protocol.specs.Keys.{RequestKey, ResponseKey}
 use Rattle.rr_protocol.specs.Messages.{ResponseMessage}

@@ -8,8 +8,8 @@ use Rattle.std.specs.FinMap.{nat_cmp-IsAntisymmetric, same_map}
 use Rattle.std.proofs.lemmas.Bool.{and_parts, cases_eq, eqb-true, ne_eqb}
 use Rattle.std.proofs.lemmas.List.{append-nil, map-append}
 use Rattle.std.proofs.lemmas.List.Elements.{filter-append, filter_agree}
-use Rattle.rr_map_laws.specs.Maps.{map_values}
-use Rattle.rr_map_laws.proofs.MapLaws.{get-map_values, tied_other, tied_same}
+use Rattle.rr_table.specs.Maps.{map_values}
+use Rattle.rr_table.proofs.MapLaws.{get-map_values, tied_other, tied_same}
 use Rattle.rr_table.specs.TableView.{TableEntry}
 use Rattle.rr_protocol.specs.Keys.{RequestKey, ResponseKey}
 use Rattle.rr_protocol.specs.Lists.{at, with_at}

@@ -6,7 +6,7 @@ use Rattle.std.specs.FinMap as fin_map
 use Rattle.std.proofs.lemmas.Bool.{cases_eq, eq-eqb, eqb-true, ne_eqb}
 use Rattle.std.proofs.lemmas.Option.{get_or_from_slice_get, slice_get_within}
 use Rattle.rr_table.specs.TableView.{TableEntry}
-use Rattle.rr_map_laws.proofs.MapLaws.{map_values-same}
+use Rattle.rr_table.proofs.MapLaws.{map_values-same}
 use Rattle.rr_sender.specs.Senders.{queue_at}
 use Rattle.rr_protocol.specs.Keys.{ResponseKey, response_key_cmp}
 use Rattle.rr_protocol.specs.Limits.{worst_case_requests}

@@ -3,7 +3,7 @@ use Rattle.std.proofs.Common.{◌≡◌, ◌<◌, ℕ, true, List, [], ◌∷◌
 use Rattle.std.specs.Prelude.{IfSome, IsSomeAnd, slice_get, slice_index, slice_set}
 use Rattle.std.specs.FinMap as fin_map
 use Rattle.std.proofs.lemmas.Bool.{eq-eqb}
-use Rattle.rr_map_laws.specs.Maps.{mark}
+use Rattle.rr_table.specs.Maps.{mark}
 use Rattle.rr_table.specs.TableView.{TableEntry, TableView, removed, value_at}
 use Rattle.rr_table.specs.declared.place.Place.{Place}
 use Rattle.rr_protocol.specs.State.{State, handle_at}

@@ -5,7 +5,7 @@ use Rattle.std.specs.Option.{option_map_or}
 use Rattle.std.specs.FinMap as fin_map
 use Rattle.std.proofs.lemmas.Bool.{eq-eqb, eqb-true}
 use Rattle.std.proofs.lemmas.Option.{slice_get-get_or}
-use Rattle.rr_map_laws.specs.Maps.{mark}
+use Rattle.rr_table.specs.Maps.{mark}
 use Rattle.rr_table.specs.TableView.{TableEntry}
 use Rattle.rr_table.specs.declared.place.Place.{Place}
 use Rattle.rr_store.specs.declared.handle_entry.HandleEntry.{HandleEntry}

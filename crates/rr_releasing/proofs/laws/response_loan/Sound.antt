@@ -3,7 +3,7 @@ use Rattle.std.proofs.Common.{◌≡◌, ◌≢◌, ◌<◌, ◌-◌, ℕ, true,
 use Rattle.std.specs.Prelude.{◌==◌, ◌&&◌, slice_index}
 use Rattle.std.specs.FinMap as fin_map
 use Rattle.std.proofs.lemmas.Bool.{false≢true, eq-eqb, ne_eqb}
-use Rattle.rr_map_laws.specs.Maps.{mark}
+use Rattle.rr_table.specs.Maps.{mark}
 use Rattle.rr_table.specs.TableView.{TableEntry}
 use Rattle.rr_sender.specs.Senders.{times, all_entries, queue_at, borrowed_at}
 use Rattle.rr_store.specs.declared.handle_entry.HandleEntry.{HandleEntry}

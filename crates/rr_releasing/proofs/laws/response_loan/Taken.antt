@@ -4,11 +4,11 @@ use Rattle.std.specs.Prelude.{◌==◌, ◌&&◌, ◌⊎◌, IfSome, slice_index
 use Rattle.std.specs.Ordering.{nat_cmp}
 use Rattle.std.specs.FinMap as fin_map
 use Rattle.std.proofs.lemmas.Bool.{false≢true, cases_lt, eq-eqb, eqb-true}
-use Rattle.rr_map_laws.specs.Maps.{mark, map_values}
+use Rattle.rr_table.specs.Maps.{mark, map_values}
 use Rattle.rr_table.specs.TableView.{TableEntry, TableView, table_entry, inserted, removed, kept_in}
 use Rattle.rr_table.specs.declared.place.Place.{Place}
 use Rattle.rr_table.proofs.Kept.{kept_in_own, kept_in_place}
-use Rattle.rr_map_laws.proofs.MapLaws.{tally-remove, get-remove_same, get-remove_cases, get-map_values, insert_itself, insert-remove, map_values-insert}
+use Rattle.rr_table.proofs.MapLaws.{tally-remove, get-remove_same, get-remove_cases, get-map_values, insert_itself, insert-remove, map_values-insert}
 use Rattle.rr_table.proofs.Standing.{none_or_some}
 use Rattle.rr_store.specs.declared.handle_entry.HandleEntry.{HandleEntry}
 use Rattle.rr_store.specs.declared.handle_entry.Stage.{Stage}

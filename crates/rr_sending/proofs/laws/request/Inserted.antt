@@ -3,7 +3,7 @@ use Rattle.std.proofs.Common.{◌≡◌, ℕ, true, [], ◌∷◌, Some, refl, s
 use Rattle.std.specs.FinMap as fin_map
 use Rattle.std.proofs.lemmas.Bool.{false≢true}
 use Rattle.rr_table.specs.TableView.{TableEntry, table_entry, removed}
-use Rattle.rr_map_laws.proofs.MapLaws.{get-remove_same, insert-remove}
+use Rattle.rr_table.proofs.MapLaws.{get-remove_same, insert-remove}
 use Rattle.rr_store.specs.declared.handle_entry.HandleEntry.{HandleEntry}
 use Rattle.rr_store.specs.declared.handle_entry.Stage.TheVariants as stage
 use Rattle.rr_store.specs.declared.details.RequestDetails.{RequestDetails}

@@ -6,8 +6,8 @@ use Rattle.std.specs.FinMap as fin_map
 use Rattle.std.proofs.lemmas.Bool.{eq-eqb, eqb-true}
 use Rattle.std.proofs.lemmas.List.{length-map}
 use Rattle.rr_table.specs.TableView.{TableEntry}
-use Rattle.rr_map_laws.proofs.Counting.{count-map}
-use Rattle.rr_map_laws.proofs.ListFacts.{any-map}
+use Rattle.rr_table.proofs.Counting.{count-map}
+use Rattle.rr_table.proofs.ListFacts.{any-map}
 use Rattle.rr_sender.specs.Senders.{Messages, queue_at}
 use Rattle.rr_protocol.specs.declared.error.RequestSendError.{RequestSendError}
 use Rattle.rr_protocol.specs.declared.error.SendError.{SendError}

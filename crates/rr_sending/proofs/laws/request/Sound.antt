@@ -4,9 +4,9 @@ use Rattle.std.specs.Prelude.{◌==◌, ◌&&◌, slice_get, slice_index}
 use Rattle.std.specs.FinMap as fin_map
 use Rattle.std.proofs.lemmas.Bool.{cases_eq, eq-eqb, and_parts}
 use Rattle.std.proofs.lemmas.List.{get_or-set_same, get_or-set_other, length-set}
-use Rattle.rr_map_laws.specs.Maps.{tally, mark}
+use Rattle.rr_table.specs.Maps.{tally, mark}
 use Rattle.rr_table.specs.TableView.{TableEntry}
-use Rattle.rr_map_laws.proofs.MapLaws.{tally-at, tally-le}
+use Rattle.rr_table.proofs.MapLaws.{tally-at, tally-le}
 use Rattle.rr_sender.specs.Senders.{Messages, times, all_entries, queue_at, borrowed_at}
 use Rattle.rr_sender.proofs.EntryLaws.{mark-same, mark-other}
 use Rattle.rr_store.specs.declared.handle_entry.HandleEntry.{HandleEntry}

@@ -3,8 +3,8 @@ use Rattle.std.proofs.Common.{◌≡◌, ◌<◌, ◌+◌, ◌*◌, ℕ, Bool, t
 use Rattle.std.specs.Prelude.{◌&&◌, ◌||◌, count_by, slice_get, slice_index_or}
 use Rattle.std.specs.List.{list_any}
 use Rattle.std.proofs.lemmas.List.Sums.{count_by-le-length}
-use Rattle.rr_map_laws.proofs.Counting.{count-cons}
-use Rattle.rr_map_laws.specs.Maps.{mark}
+use Rattle.rr_table.proofs.Counting.{count-cons}
+use Rattle.rr_table.specs.Maps.{mark}
 use Rattle.rr_sender.specs.Senders.{Messages}
 use Rattle.rr_store.specs.declared.port.ServerPort.{ServerPort}
 use Rattle.rr_store.specs.Parts.{ServerPart}

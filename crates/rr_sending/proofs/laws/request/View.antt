@@ -8,9 +8,9 @@ use Rattle.std.proofs.lemmas.Bool.{cases_eq, eq-eqb, eqb-true, ne_eqb, false≢t
 use Rattle.std.proofs.lemmas.List.{length-set}
 use Rattle.std.proofs.lemmas.Simd.{map-map}
 use Rattle.std.proofs.lemmas.Option.{slice_get-get_or, get_or_from_slice_get, slice_get_within}
-use Rattle.rr_map_laws.specs.Maps.{map_values}
+use Rattle.rr_table.specs.Maps.{map_values}
 use Rattle.rr_table.specs.TableView.{TableEntry, table_entry}
-use Rattle.rr_map_laws.proofs.MapLaws.{map_values-insert, map_values-same, tally-at, get-remove_other}
+use Rattle.rr_table.proofs.MapLaws.{map_values-insert, map_values-same, tally-at, get-remove_other}
 use Rattle.rr_sender.specs.Senders.{Messages, queue_at}
 use Rattle.rr_protocol.specs.Keys.{RequestKey, request_key, request_key_cmp}
 use Rattle.rr_protocol.specs.Lists.{Lists, at}

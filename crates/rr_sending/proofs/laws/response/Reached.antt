@@ -7,7 +7,7 @@ use Rattle.std.proofs.lemmas.Option.{get_or_from_slice_get, slice_get-get_or}
 use Rattle.rr_table.specs.TableView.{TableEntry, kept_in, value_in}
 use Rattle.rr_table.specs.declared.place.Place.{Place}
 use Rattle.rr_table.proofs.Kept.{kept_in_own, kept_in_place}
-use Rattle.rr_map_laws.proofs.MapLaws.{tally-at}
+use Rattle.rr_table.proofs.MapLaws.{tally-at}
 use Rattle.rr_table.proofs.Standing.{none_or_some}
 use Rattle.rr_protocol.specs.Counts.{is_alive}
 use Rattle.rr_protocol.specs.Keys.{ResponseKey}

@@ -1,6 +1,6 @@
 use Rattle.std.proofs.Common.{sym, ap, ◌∙◌}
 use Rattle.std.specs.Prelude.{count_by, not}
-use Rattle.rr_map_laws.proofs.Counting.{count-map}
+use Rattle.rr_table.proofs.Counting.{count-map}
 use Rattle.rr_sender.specs.Senders.{Messages}
 use Rattle.rr_store.specs.Changes.{is_open_to}
 use Rattle.rr_store.specs.Opened.{opened}

@@ -1,7 +1,5 @@
-use Rattle.std.proofs.Common.{ℕ, List, ap, subst, sym, ◌∙◌}
-use Rattle.rr_shared_ports.specs.Leading.{IsHistory}
-use Rattle.rr_shared_ports.specs.Turns.{EndsIn}
-use Rattle.rr_shared_ports.proofs.Turns.{ends_in, history_grows}
+use Rattle.std.proofs.Common.{◌∙◌}
+use Rattle.rr_shared_ports.proofs.Words.{ℕ, List, ap, subst, sym, IsHistory, EndsIn, ends_in, history_grows}
 use Rattle.rr_shared_ports.proofs.desk.noted.Goals as goal
 
 -- the history goes on by the step

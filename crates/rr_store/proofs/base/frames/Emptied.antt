@@ -6,7 +6,7 @@ use Rattle.std.specs.FinMap as fin_map
 use Rattle.std.proofs.lemmas.List.{ext_get_or, length-map}
 use Rattle.rr_slots.specs.Pools.{Written}
 use Rattle.rr_table.specs.TableView.{TableEntry}
-use Rattle.rr_map_laws.proofs.MapLaws.{map_values-same}
+use Rattle.rr_table.proofs.MapLaws.{map_values-same}
 use Rattle.rr_sender.specs.Senders.{Messages, content_at, queue_at, times, uses}
 use Rattle.rr_sender.proofs.EntryLaws.{mark-same}
 use Rattle.rr_protocol.specs.Keys.{RequestKey, ResponseKey}

@@ -4,10 +4,10 @@ use Rattle.std.specs.Prelude.{◌&&◌, count_by, slice_get}
 use Rattle.std.specs.Ordering.{nat_cmp}
 use Rattle.std.specs.FinMap as fin_map
 use Rattle.std.proofs.lemmas.List.Sums.{sum_by-cons}
-use Rattle.rr_map_laws.specs.Maps.{mark}
+use Rattle.rr_table.specs.Maps.{mark}
 use Rattle.rr_table.specs.TableView.{TableEntry, table_entry, inserted, removed}
 use Rattle.rr_table.specs.declared.place.Place.{Place}
-use Rattle.rr_map_laws.proofs.MapLaws.{tally-insert, tally-remove, get-insert_cases, get-insert_other, get-remove_cases, get-remove_same, get-remove_other}
+use Rattle.rr_table.proofs.MapLaws.{tally-insert, tally-remove, get-insert_cases, get-insert_other, get-remove_cases, get-remove_same, get-remove_other}
 use Rattle.rr_store.specs.declared.handle_entry.HandleEntry.{HandleEntry}
 use Rattle.rr_store.specs.declared.handle_entry.Stage.TheVariants as stage
 use Rattle.rr_store.specs.Parts.{ClientPart, Parts, Sender}

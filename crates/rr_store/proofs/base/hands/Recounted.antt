@@ -1,7 +1,7 @@
 -- A handle of an active request in hand counts other loans.
 use Rattle.std.proofs.Common.{◌≡◌, ℕ, Bool, ◌∷◌, refl, ap, ◌∙◌, arith}
 use Rattle.std.specs.Prelude.{count_by}
-use Rattle.rr_map_laws.specs.Maps.{mark}
+use Rattle.rr_table.specs.Maps.{mark}
 use Rattle.rr_store.specs.declared.handle_entry.HandleEntry.{HandleEntry}
 use Rattle.rr_store.specs.Answering.{active_entry}
 use Rattle.rr_store.specs.Parts.{Parts}

@@ -4,7 +4,7 @@ use Rattle.std.specs.Prelude.{◌==◌, ◌&&◌, slice_get}
 use Rattle.std.specs.List.{list_any, position}
 use Rattle.std.proofs.lemmas.Bool.{eq-eqb, eqb-true}
 use Rattle.std.proofs.lemmas.Option.{slice_get_within, slice_get-get_or}
-use Rattle.rr_map_laws.proofs.Members.{any_gives, any_there}
+use Rattle.rr_table.proofs.Members.{any_gives, any_there}
 use Rattle.rr_store.specs.Order.{IsRising}
 use Rattle.rr_store.proofs.base.lists.Replaced.{Standing, standing}
 use Rattle.rr_store.proofs.base.lists.Rising.{rising_once}

@@ -3,7 +3,7 @@ use Rattle.std.proofs.Common.{◌≡◌, ◌≢◌, ◌<◌, ◌+◌, ℕ, zero,
 use Rattle.std.specs.Prelude.{◌==◌, ◌&&◌, ◌||◌}
 use Rattle.std.specs.List.{list_any}
 use Rattle.std.proofs.lemmas.Bool.{cases_eq, cases_lt, eq-eqb, ne_eqb}
-use Rattle.rr_map_laws.proofs.ListFacts.{or_true}
+use Rattle.rr_table.proofs.ListFacts.{or_true}
 use Rattle.rr_protocol.specs.Counts.{distinct_count}
 
 -- how many of the first n numbers pass a test

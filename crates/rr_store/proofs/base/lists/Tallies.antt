@@ -8,8 +8,8 @@ use Rattle.std.proofs.lemmas.List.{length-append}
 use Rattle.std.proofs.lemmas.Option.{slice_get-get_or, get_or_from_slice_get, slice_get_within}
 use Rattle.std.proofs.Math.ListN.{get_or-append}
 use Rattle.std.proofs.Math.Seq.{get_or-append_seam}
-use Rattle.rr_map_laws.specs.Maps.{tally, mark}
-use Rattle.rr_map_laws.proofs.MapLaws.{get-remove_other, get-remove_same, map_values-same, tally-map_values, tally-remove}
+use Rattle.rr_table.specs.Maps.{tally, mark}
+use Rattle.rr_table.proofs.MapLaws.{get-remove_other, get-remove_same, map_values-same, tally-map_values, tally-remove}
 
 -- with none in hand it is what the table has
 pub and_none : (n : ℕ) → n ≡ n + 0

@@ -5,7 +5,7 @@ use Rattle.std.specs.List.{list_any}
 use Rattle.std.specs.FinMap as fin_map
 use Rattle.std.proofs.lemmas.Bool.{lt-ltb}
 use Rattle.rr_table.specs.TableView.{TableEntry, TableView, value_at}
-use Rattle.rr_map_laws.proofs.MapLaws.{get-map_values}
+use Rattle.rr_table.proofs.MapLaws.{get-map_values}
 use Rattle.rr_table.proofs.TableLaws.{is_fresh}
 use Rattle.rr_protocol.specs.declared.kind.Kind.{Kind}
 use Rattle.rr_protocol.specs.Queries.{kind_of, kind_at}

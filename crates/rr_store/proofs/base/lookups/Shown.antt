@@ -4,7 +4,7 @@ use Rattle.std.specs.Prelude.{IsSome, IsSomeAnd, is_some, option_and_then, slice
 use Rattle.std.proofs.lemmas.Bool.{cases_lt, eq-eqb, false≢true}
 use Rattle.std.proofs.lemmas.List.{get_or_past}
 use Rattle.rr_table.specs.TableView.{value_at}
-use Rattle.rr_map_laws.proofs.MapLaws.{tally-at}
+use Rattle.rr_table.proofs.MapLaws.{tally-at}
 use Rattle.rr_protocol.specs.Messages.{RequestMessage, ResponseMessage, request_in, response_in}
 use Rattle.rr_protocol.specs.State.{State, handle_at}
 use Rattle.rr_store.specs.declared.handle_entry.HandleEntry.{HandleEntry}

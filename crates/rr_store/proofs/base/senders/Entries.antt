@@ -5,8 +5,8 @@ use Rattle.std.specs.List.{list_any}
 use Rattle.std.proofs.lemmas.Bool.{cases_eq, cases_lt, eq-eqb, eqb-true, ne_eqb, false≢true}
 use Rattle.std.proofs.lemmas.List.{get_or_past}
 use Rattle.std.proofs.lemmas.Option.{get_or_from_slice_get, slice_get_within}
-use Rattle.rr_map_laws.proofs.ListFacts.{or_true}
-use Rattle.rr_map_laws.proofs.Members.{any_gives, any_there, any-flat}
+use Rattle.rr_table.proofs.ListFacts.{or_true}
+use Rattle.rr_table.proofs.Members.{any_gives, any_there, any-flat}
 use Rattle.rr_sender.specs.Senders.{Messages, times, at_two, all_entries, uses, used_below}
 use Rattle.rr_store.specs.Sound.{IsShaped}
 use Rattle.rr_store.proofs.base.lists.Distinct.{count_below}

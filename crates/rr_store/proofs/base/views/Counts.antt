@@ -4,10 +4,10 @@ use Rattle.std.specs.Prelude.{◌==◌, ◌&&◌, slice_get, count_by}
 use Rattle.std.specs.FinMap as fin_map
 use Rattle.std.proofs.lemmas.Bool.{cases_eq, eq-eqb, ne_eqb}
 use Rattle.std.proofs.lemmas.Option.{slice_get-map}
-use Rattle.rr_map_laws.specs.Maps.{tally}
+use Rattle.rr_table.specs.Maps.{tally}
 use Rattle.rr_table.specs.TableView.{TableEntry}
-use Rattle.rr_map_laws.proofs.Counting.{count-map}
-use Rattle.rr_map_laws.proofs.MapLaws.{tally-map_values}
+use Rattle.rr_table.proofs.Counting.{count-map}
+use Rattle.rr_table.proofs.MapLaws.{tally-map_values}
 use Rattle.rr_protocol.specs.Messages.{Handle}
 use Rattle.rr_protocol.specs.State.{all_handles}
 use Rattle.rr_protocol.specs.Counts.{is_request_loan, is_response_loan, is_response_loan_from, is_pending_of, loaned_requests, loaned_responses, loaned_responses_from, pending_responses}

@@ -8,8 +8,8 @@ use Rattle.std.specs.FinMap.{nat_cmp-IsAntisymmetric, retain_keys}
 use Rattle.std.proofs.lemmas.Bool.{false≢true, eqb-true, and_parts, ne_eqb}
 use Rattle.std.proofs.lemmas.List.{append-nil}
 use Rattle.std.proofs.lemmas.List.Folds.{list_any-append}
-use Rattle.rr_map_laws.proofs.ListFacts.{any-map, or_true}
-use Rattle.rr_map_laws.proofs.MapFacts.{itself}
+use Rattle.rr_table.proofs.ListFacts.{any-map, or_true}
+use Rattle.rr_table.proofs.MapFacts.{itself}
 use Rattle.rr_protocol.specs.Lists.{Lists, at, filled_keys, no_lists, with_at}
 use Rattle.rr_protocol.specs.Keys.{RequestKey, ResponseKey, request_key_cmp, response_key_cmp}
 use Rattle.rr_protocol.proofs.KeyLaws.{request_keys_total, request_keys_exact, response_keys_total, response_keys_exact}

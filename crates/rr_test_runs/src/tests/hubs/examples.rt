@@ -1,13 +1,13 @@
-//! Locked hubs and books: the examples in their documents, what they keep of two seats' calls, and workers in two threads.
+//! Locked hubs and books: the examples in their documents, their records of two seats' calls, and workers in two
+//! threads.
 ghost use Rattle.std.specs.Prelude.{◌≡◌};
 
 use super::rows::{NODE, ONE_CLIENT, TWO_CLIENTS, Who, in_its_place};
-use rr_commands::Reply;
 use rr_locked::{
     Bell, Bells, Book, CREATE_CLIENT, CREATE_SERVER, LockedHub, MOST_SEATS, PARTS, Plan, Receipt,
     Seat, Submit, WorkerError, answer_all, ask_all, send_copy, take_response,
 };
-use rr_protocol::{HubCreateError, Limits, UniqueNodeId};
+use rr_protocol::{HubCreateError, Limits, Reply, UniqueNodeId};
 use std::alloc::Global;
 use std::marker::Brand;
 use std::process::Abort;
@@ -29,7 +29,7 @@ const IN_VAIN: Plan = Plan {
     turns: 1000,
 };
 
-/// Rings a bell. Returns whether who waits at it hears it.
+/// Rings a bell. Returns whether a wait at it ends.
 fn is_heard(bell: &Bell) -> bool {
     let rings = bell.rings();
     bell.ring();
@@ -92,7 +92,7 @@ fn told<L: Ledger, R: Wait>(rt: &R, alloc: Global, blank: Blank) -> Result<usize
     Ok(book.history().len())
 }
 
-/// Makes a book with a client. Returns how many calls it has noted.
+/// Makes a book with a client. Returns the number of calls in its history.
 fn noted<L: Ledger>(alloc: Global, blank: Blank) -> Result<usize, Fail>
     requires name { blank.name ≡ L.name }
     requires parts { blank.parts ≡ L.parts }
@@ -238,8 +238,8 @@ fn work<L: Ledger + Send + Sync, R: Threads + Wait + Sync>(
     )
 }
 
-/// Creates a client 0 and a server 1, lets their workers work, and then each worker alone. Returns how the two ended, and whether all
-/// others give up.
+/// Creates a client 0 and a server 1, lets their workers work, and then each worker alone. Returns how the two ended,
+/// and whether all others give up.
 fn worked<L: Ledger + Send + Sync, R: Abort + Threads + Wait + Sync>(
     rt: &R,
     alloc: Global,
@@ -260,7 +260,8 @@ fn worked<L: Ledger + Send + Sync, R: Abort + Threads + Wait + Sync>(
     ([sum, end], is_left_alone(rt, &hub, &mut seat))
 }
 
-/// Returns whether a later client has the number after three in each round, and workers give up at a hub where nobody asks or answers.
+/// Returns whether a later client has the number after three in each round, and workers give up at a hub where nobody
+/// asks or answers.
 fn is_left_alone<L: Ledger, R: Wait>(rt: &R, hub: &LockedHub<L>, seat: &mut Seat<L>) -> bool {
     let bells = Bells::new();
     client(rt, hub, seat) == Some(3_002)

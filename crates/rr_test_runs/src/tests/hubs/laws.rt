@@ -1,4 +1,4 @@
-//! What callers of a shared hub can promise and prove: one function for each law.
+//! Promises and proofs of a shared hub's callers: one function for each law.
 ghost use Rattle.std.specs.Prelude.{◌≡◌, ◌⊎◌, ◌∷◌, ◌++◌, [], false, IfSome, ℕ};
 ghost use mathlib.Core.List.{IsPrefix};
 ghost use Rattle.rr_laws.specs.Unreduced.{is_out_of_memory};
@@ -41,8 +41,8 @@ pub fn asked_twice<
     (one, two)
 }
 
-/// Submits a command by each of two seats that meet afterwards. Promises that one history has the calls of both: what one has seen
-/// begins what the other has seen.
+/// Submits a command by each of two seats that meet afterwards. Promises that one history has the calls of both: the
+/// history of one seat is a prefix of the other's.
 pub fn met<N: Naming, R: Wait>(
     rt: &R,
     hub: &Numbers<N>,
@@ -76,7 +76,8 @@ pub fn received_by_both<N: Naming, R: Wait>(
     hub.compare(one, other);
 }
 
-/// Receives a response of a pending response. Promises that it was loaned from an active request of this request, and sent.
+/// Receives a response of a pending response. Promises that it was loaned from an active request of this request, and
+/// sent.
 pub fn received<N: Naming, R: Wait>(
     rt: &R,
     hub: &Numbers<N>,
@@ -91,7 +92,8 @@ pub fn received<N: Naming, R: Wait>(
     }
 }
 
-/// Loans a request of a client that was created with a whole pool. Promises that the loan found a slot, whatever other callers do.
+/// Loans a request of a client that was created with a whole pool. Promises that the loan found a slot, whatever
+/// other callers do.
 pub fn loaned<N: Naming, R: Wait>(
     rt: &R,
     hub: &Numbers<N>,
@@ -118,8 +120,8 @@ pub fn created<N: Naming, R: Wait>(
     }
 }
 
-/// Ends the sharing of a hub, and shows two seats the whole history. Promises that they have then seen the same, and that each made
-/// just the calls that it knew of.
+/// Ends the sharing of a hub, and shows two seats the whole history. Promises that they have then seen the same, and
+/// that each made just the calls that it knew of.
 pub fn ended<
     N: Naming,
     T: Copy + Default,

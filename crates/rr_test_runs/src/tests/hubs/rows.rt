@@ -1,7 +1,7 @@
 //! Commands to hubs of numbers, with the replies that they have to get.
-use rr_commands::{Command, Elements, Reply};
 use rr_protocol::{
-    ClientSettings, Limits, NoHandler, RequestHeader, ServerSettings, UniqueClientId, UniqueNodeId,
+    ClientSettings, Command, Elements, Limits, NoHandler, Reply, RequestHeader, ServerSettings,
+    UniqueClientId, UniqueNodeId,
 };
 
 /// A command to a hub of numbers.
@@ -48,8 +48,8 @@ pub fn new_server() -> HubCommand {
     Command::CreateServer(ServerSettings::default())
 }
 
-/// One seat's client 0 sends a request 2, which the other seat's server receives, and is released with it. A client 4 takes its place,
-/// sends a request 5, and gets none of the responses to the request 2.
+/// One seat's client 0 sends a request 2, which the other seat's server receives, and is released with it. A client 4
+/// takes its place, sends a request 5, and gets none of the responses to the request 2.
 pub fn in_its_place() -> [(Who, HubCommand, HubReply); 15] {
     let header = RequestHeader {
         client_id: UniqueClientId(4),

@@ -52,7 +52,8 @@ fn create<N: Naming, R: Wait>(rt: &R, hub: &Hub<N>, seat: &mut HubSeat<N>) -> Op
     }
 }
 
-/// Creates a client in each of two threads, and compares what their seats have seen then. Returns the clients' numbers.
+/// Creates a client in each of two threads, and compares what their seats have seen then. Returns the clients'
+/// numbers.
 fn two_create<N: Naming, R: Threads + Wait + Sync>(
     rt: &R,
     opened: OpenedHub,

@@ -1,6 +1,6 @@
 use Rattle.rr_slots.specs.declared.family.Family.TheVariants.{Typed}
 use Rattle.rr_laws.proofs.AnswerRuleHolds.{keeps_answer_rule}
-use Rattle.rr_runner.specs.Numbers.{IsZero, follow_strategy}
+use Rattle.rr_run.specs.Numbers.{IsZero, follow_strategy}
 use Rattle.rr_locked.proofs.book.Book.history.Goals as goal
 
 pub returns-clause-legal : goal.returns-clause-legal

@@ -1,5 +1,5 @@
 use Rattle.std.proofs.Common.{ap, ◌∙◌, rules, subst, sym}
-use Rattle.rr_commands.specs.AnswerRule.{ReceivesOnce}
+use Rattle.rr_protocol.specs.AnswerRule.{ReceivesOnce}
 use Rattle.rr_log.specs.Entries.{entries_of}
 use Rattle.rr_shared.specs.Histories.{without_callers}
 use Rattle.rr_shared.proofs.Laws.{no_more}

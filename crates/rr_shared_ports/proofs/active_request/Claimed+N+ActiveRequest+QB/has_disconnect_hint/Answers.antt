@@ -1,7 +1,5 @@
-use Rattle.std.specs.Prelude.{◌≡◌, IsSomeAnd}
-use Rattle.rr_protocol.specs.Queries.{has_disconnect_hint}
-use Rattle.rr_protocol.specs.State.{active_at}
-use Rattle.rr_shared_ports.proofs.Telling.{at_state}
+use Rattle.std.proofs.Common.{◌≡◌}
+use Rattle.rr_shared_ports.proofs.Words.{IsSomeAnd, has_disconnect_hint, active_at, at_state}
 use Rattle.rr_shared_ports.proofs.active_request.Claimed+N+ActiveRequest+QB.has_disconnect_hint.Goals as goal
 
 -- it is the call of the port

@@ -1,7 +1,5 @@
-use Rattle.std.specs.Prelude.{◌≡◌, IsSomeAnd}
-use Rattle.rr_protocol.specs.Counts.{is_alive}
-use Rattle.rr_protocol.specs.State.{active_at}
-use Rattle.rr_shared_ports.proofs.Telling.{at_state}
+use Rattle.std.proofs.Common.{◌≡◌}
+use Rattle.rr_shared_ports.proofs.Words.{IsSomeAnd, is_alive, active_at, at_state}
 use Rattle.rr_shared_ports.proofs.active_request.Claimed+N+ActiveRequest+QB.is_connected.Goals as goal
 
 -- it is the call of the port

@@ -1,6 +1,5 @@
-use Rattle.std.specs.Prelude.{◌≡◌, IsSomeAnd}
-use Rattle.rr_protocol.specs.State.{active_at}
-use Rattle.rr_shared_ports.proofs.Telling.{at_state}
+use Rattle.std.proofs.Common.{◌≡◌}
+use Rattle.rr_shared_ports.proofs.Words.{IsSomeAnd, active_at, at_state}
 use Rattle.rr_shared_ports.proofs.active_request.Claimed+N+ActiveRequest+QB.origin.Goals as goal
 
 -- it is the call of the port

@@ -1,7 +1,4 @@
-use Rattle.rr_ports.specs.Factories.{CreatesClientBy}
-use Rattle.rr_shared_ports.proofs.Telling.{at_made, is_made}
-use Rattle.rr_shared_ports.proofs.Leading.{client_made, stepped}
-use Rattle.std.proofs.Common.{rules}
+use Rattle.rr_shared_ports.proofs.Words.{CreatesClientBy, at_made, is_made, client_made, stepped, rules}
 use Rattle.rr_shared_ports.proofs.client.SharedPorts+N+Hub+QB+QH+PB+PH+K.create_client.Goals as goal
 
 -- it is the call of the port

@@ -1,9 +1,4 @@
-use Rattle.std.proofs.Common.{ap, subst}
-use Rattle.rr_protocol.specs.State.{State, empty_hub}
-use Rattle.rr_laws.proofs.PortRuns.{port_run_keeps_answer_rule}
-use Rattle.rr_shared_ports.specs.Leading.{IsHistory, Steps, calls_in}
-use Rattle.rr_shared_ports.specs.Turns.{state_after}
-use Rattle.rr_shared_ports.proofs.Readings.{history_read, read_runs}
+use Rattle.rr_shared_ports.proofs.Words.{ap, subst, State, empty_hub, port_run_keeps_answer_rule, IsHistory, Steps, calls_in, state_after, history_read, read_runs}
 use Rattle.rr_shared_ports.proofs.legal.SharedPorts+N+Hub+QB+QH+PB+PH+K.legal.Goals as goal
 
 -- the seat keeps its history

@@ -1,11 +1,5 @@
-use Rattle.std.specs.Prelude.{◌≡◌}
-use Rattle.std.specs.Fn.{FnOnceReturnsAtMut}
-use Rattle.rr_ports.specs.Updates.{UpdatesResponse}
-use Rattle.rr_protocol.specs.Writing.{with_user_header}
-use Rattle.rr_shared_ports.proofs.Telling.{at_state}
-use Rattle.rr_shared_ports.proofs.Leading.{stepped}
-use Rattle.rr_shared_ports.proofs.LeadingWrites.{response_updated}
-use Rattle.std.proofs.Common.{refl}
+use Rattle.std.proofs.Common.{◌≡◌}
+use Rattle.rr_shared_ports.proofs.Words.{FnOnceReturnsAtMut, UpdatesResponse, with_user_header, at_state, stepped, response_updated, refl}
 use Rattle.rr_shared_ports.proofs.lend.Claimed+N+ResponseMut+PB.update_user_header.Goals as goal
 
 -- it is the call of the port

@@ -1,6 +1,5 @@
-use Rattle.std.specs.Prelude.{◌≡◌, IsSomeAnd}
-use Rattle.rr_protocol.specs.State.{pending_at}
-use Rattle.rr_shared_ports.proofs.Telling.{at_state}
+use Rattle.std.proofs.Common.{◌≡◌}
+use Rattle.rr_shared_ports.proofs.Words.{IsSomeAnd, pending_at, at_state}
 use Rattle.rr_shared_ports.proofs.pending_response.Claimed+N+PendingResponse+QB.number_of_server_connections.Goals as goal
 
 -- it is the call of the port

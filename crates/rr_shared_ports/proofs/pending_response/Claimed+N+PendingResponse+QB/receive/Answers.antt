@@ -1,8 +1,4 @@
-use Rattle.std.proofs.Common.{rules, []}
-use Rattle.rr_protocol.specs.Receives.{ReceivesResponse}
-use Rattle.rr_shared_ports.proofs.Telling.{at, is_received}
-use Rattle.rr_shared_ports.proofs.Leading.{response_received, stepped}
-use Rattle.rr_ports.specs.Facts.{Keeps}
+use Rattle.rr_shared_ports.proofs.Words.{rules, [], ReceivesResponse, at, is_received, response_received, stepped, Keeps}
 use Rattle.rr_shared_ports.proofs.pending_response.Claimed+N+PendingResponse+QB.receive.Goals as goal
 
 -- it is the call of the port

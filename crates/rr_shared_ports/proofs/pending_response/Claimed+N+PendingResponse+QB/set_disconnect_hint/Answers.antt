@@ -1,8 +1,5 @@
-use Rattle.std.specs.Prelude.{◌≡◌}
-use Rattle.rr_protocol.specs.Messages.{with_hint}
-use Rattle.rr_protocol.specs.State.{with_changed}
-use Rattle.rr_shared_ports.proofs.Telling.{at_state}
-use Rattle.rr_shared_ports.proofs.Leading.{hinted, stepped}
+use Rattle.std.proofs.Common.{◌≡◌}
+use Rattle.rr_shared_ports.proofs.Words.{with_hint, with_changed, at_state, hinted, stepped}
 use Rattle.rr_shared_ports.proofs.pending_response.Claimed+N+PendingResponse+QB.set_disconnect_hint.Goals as goal
 
 -- it is the call of the port

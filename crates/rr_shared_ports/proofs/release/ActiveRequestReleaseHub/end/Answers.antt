@@ -1,4 +1,4 @@
-use Rattle.rr_shared_ports.proofs.Leading.{released}
+use Rattle.rr_shared_ports.proofs.Words.{released}
 use Rattle.rr_shared_ports.proofs.release.ActiveRequestReleaseHub.end.Goals as goal
 
 -- it is released, and nothing else

@@ -1,6 +1,5 @@
-use Rattle.std.specs.Prelude.{◌↔◌, IfOk, IsTrue}
-use Rattle.rr_protocol.specs.Queries.{HasRequests}
-use Rattle.rr_shared_ports.proofs.Telling.{at_state}
+use Rattle.std.proofs.Common.{◌↔◌}
+use Rattle.rr_shared_ports.proofs.Words.{IfOk, IsTrue, HasRequests, at_state}
 use Rattle.rr_shared_ports.proofs.server.Claimed+N+Server+PB.has_requests.Goals as goal
 
 -- it is the call of the port

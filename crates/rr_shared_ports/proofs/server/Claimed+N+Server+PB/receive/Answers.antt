@@ -1,8 +1,4 @@
-use Rattle.std.proofs.Common.{⊎_elim, rules}
-use Rattle.rr_protocol.specs.Receives.{ReceivesRequest}
-use Rattle.rr_ports.specs.Facts.{numbers_left}
-use Rattle.rr_shared_ports.proofs.Telling.{answered, at, exhausted, is_received}
-use Rattle.rr_shared_ports.proofs.Leading.{request_received, stepped}
+use Rattle.rr_shared_ports.proofs.Words.{⊎_elim, rules, ReceivesRequest, numbers_left, answered, at, exhausted, is_received, request_received, stepped}
 use Rattle.rr_shared_ports.proofs.server.Claimed+N+Server+PB.receive.Goals as goal
 
 -- it is the call of the port

@@ -1,7 +1,4 @@
-use Rattle.rr_ports.specs.Factories.{CreatesServerBy}
-use Rattle.rr_shared_ports.proofs.Telling.{at_made, is_made}
-use Rattle.rr_shared_ports.proofs.Leading.{server_made, stepped}
-use Rattle.std.proofs.Common.{rules}
+use Rattle.rr_shared_ports.proofs.Words.{CreatesServerBy, at_made, is_made, server_made, stepped, rules}
 use Rattle.rr_shared_ports.proofs.server.SharedPorts+N+Hub+QB+QH+PB+PH+K.create_server.Goals as goal
 
 -- it is the call of the port

@@ -1,8 +1,4 @@
-use Rattle.std.proofs.Common.{[], refl, sym, subst}
-use Rattle.std.specs.Fn.{FnOnceReturnsAtMut}
-use Rattle.std.specs.Prelude.{Result}
-use Rattle.rr_shared_ports.specs.Calls.{IsMade, MakesFree}
-use Rattle.rr_shared_ports.proofs.Turns.{makes_call, steps_from}
+use Rattle.rr_shared_ports.proofs.Words.{[], refl, sym, subst, FnOnceReturnsAtMut, Result, IsMade, MakesFree, makes_call, steps_from}
 use Rattle.rr_shared_ports.proofs.shared_ports.SharedPorts.created.Goals as goal
 
 -- what is made is claimed

@@ -1,6 +1,5 @@
-use Rattle.std.proofs.Common.{[], ◌∷◌, refl, sym, subst, ap, ◌∙◌}
-use Rattle.rr_shared_ports.specs.Calls.{Takes}
-use Rattle.rr_shared_ports.proofs.Turns.{makes_call, steps_from}
+use Rattle.std.proofs.Common.{◌∷◌, ◌∙◌}
+use Rattle.rr_shared_ports.proofs.Words.{[], refl, sym, subst, ap, Takes, makes_call, steps_from}
 use Rattle.rr_shared_ports.proofs.shared_ports.SharedPorts.ended.Goals as goal
 
 -- all else is kept

@@ -1,7 +1,5 @@
-use Rattle.std.proofs.Common.{refl}
-use Rattle.std.specs.Fn.{FnOnceReturnsAt}
-use Rattle.std.specs.Prelude.{◌≡◌}
-use Rattle.rr_shared_ports.proofs.Turns.{makes_call}
+use Rattle.std.proofs.Common.{◌≡◌}
+use Rattle.rr_shared_ports.proofs.Words.{refl, FnOnceReturnsAt, makes_call}
 use Rattle.rr_shared_ports.proofs.shared_ports.SharedPorts.looked.Goals as goal
 
 -- what is noted is the call

@@ -1,8 +1,5 @@
-use Rattle.std.proofs.Common.{[], refl, sym, subst, ap, ◌∙◌, inl}
-use Rattle.std.specs.Fn.{FnOnceReturnsAtMut}
-use Rattle.std.specs.Prelude.{Result}
-use Rattle.rr_shared_ports.specs.Calls.{IsMade, MakesFree, Tells}
-use Rattle.rr_shared_ports.proofs.Turns.{makes_call, steps_from}
+use Rattle.std.proofs.Common.{◌∙◌}
+use Rattle.rr_shared_ports.proofs.Words.{[], refl, sym, subst, ap, inl, FnOnceReturnsAtMut, Result, IsMade, MakesFree, Tells, makes_call, steps_from}
 use Rattle.rr_shared_ports.proofs.shared_ports.SharedPorts.made.Goals as goal
 
 -- what is made is claimed

@@ -1,7 +1,5 @@
-use Rattle.std.proofs.Common.{[], refl, sym, subst, ap, ◌∙◌, inl}
-use Rattle.std.specs.Fn.{FnOnceReturnsAtMut}
-use Rattle.rr_shared_ports.specs.Calls.{Tells}
-use Rattle.rr_shared_ports.proofs.Turns.{makes_call, steps_from}
+use Rattle.std.proofs.Common.{◌∙◌}
+use Rattle.rr_shared_ports.proofs.Words.{[], refl, sym, subst, ap, inl, FnOnceReturnsAtMut, Tells, makes_call, steps_from}
 use Rattle.rr_shared_ports.proofs.shared_ports.SharedPorts.numbered.Goals as goal
 
 -- all claims are kept

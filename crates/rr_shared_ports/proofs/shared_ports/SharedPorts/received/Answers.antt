@@ -1,8 +1,5 @@
-use Rattle.std.proofs.Common.{[], refl, sym, subst, ap, ◌∙◌}
-use Rattle.std.specs.Fn.{FnOnceReturnsAtMut}
-use Rattle.std.specs.Prelude.{Option, Result}
-use Rattle.rr_shared_ports.specs.Calls.{IsReceived, ReceivesFree}
-use Rattle.rr_shared_ports.proofs.Turns.{makes_call, steps_from}
+use Rattle.std.proofs.Common.{◌∙◌}
+use Rattle.rr_shared_ports.proofs.Words.{[], refl, sym, subst, ap, FnOnceReturnsAtMut, Option, Result, IsReceived, ReceivesFree, makes_call, steps_from}
 use Rattle.rr_shared_ports.proofs.shared_ports.SharedPorts.received.Goals as goal
 
 -- what is received is claimed

@@ -1,6 +1,5 @@
-use Rattle.std.proofs.Common.{[], refl, sym, subst, ap, ◌∙◌, ◌∷◌}
-use Rattle.std.specs.Fn.{FnOnceReturnsAtMut}
-use Rattle.rr_shared_ports.proofs.Turns.{makes_call, steps_from}
+use Rattle.std.proofs.Common.{◌∙◌, ◌∷◌}
+use Rattle.rr_shared_ports.proofs.Words.{[], refl, sym, subst, ap, FnOnceReturnsAtMut, makes_call, steps_from}
 use Rattle.rr_shared_ports.proofs.shared_ports.SharedPorts.rewritten.Goals as goal
 
 -- the call keeps what is known of all numbers but the claimed one

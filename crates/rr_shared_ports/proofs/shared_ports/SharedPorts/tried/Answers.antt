@@ -1,8 +1,6 @@
-use Rattle.std.proofs.Common.{[], ◌∷◌, refl, sym, subst, ap, ◌∙◌}
-use Rattle.std.specs.Prelude.{Result}
+use Rattle.std.proofs.Common.{◌∷◌, ◌∙◌}
+use Rattle.rr_shared_ports.proofs.Words.{[], refl, sym, subst, ap, Result, IsTried, Takes, TriesFree, makes_call, steps_from}
 use Rattle.rr_ports.specs.declared.try_send.Refused.{Refused}
-use Rattle.rr_shared_ports.specs.Calls.{IsTried, Takes, TriesFree}
-use Rattle.rr_shared_ports.proofs.Turns.{makes_call, steps_from}
 use Rattle.rr_shared_ports.proofs.shared_ports.SharedPorts.tried.Goals as goal
 
 -- the claim is exchanged or given back

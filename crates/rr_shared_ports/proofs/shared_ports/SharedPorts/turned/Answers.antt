@@ -1,7 +1,5 @@
-use Rattle.std.proofs.Common.{[], ◌∷◌, refl, sym, subst, ap, ◌∙◌}
-use Rattle.std.specs.Prelude.{Result}
-use Rattle.rr_shared_ports.specs.Calls.{IsMade, Takes, TurnsFree}
-use Rattle.rr_shared_ports.proofs.Turns.{makes_call, steps_from}
+use Rattle.std.proofs.Common.{◌∷◌, ◌∙◌}
+use Rattle.rr_shared_ports.proofs.Words.{[], refl, sym, subst, ap, Result, IsMade, Takes, TurnsFree, makes_call, steps_from}
 use Rattle.rr_shared_ports.proofs.shared_ports.SharedPorts.turned.Goals as goal
 
 -- the claim is exchanged or given back

@@ -1,8 +1,4 @@
-use Rattle.rr_shared_ports.specs.Tries.{TriesRequest}
-use Rattle.rr_shared_ports.proofs.Telling.{at, is_tried}
-use Rattle.rr_shared_ports.proofs.Leading.{stepped_on}
-use Rattle.rr_shared_ports.proofs.LeadingWrites.{request_tried}
-use Rattle.std.proofs.Common.{rules}
+use Rattle.rr_shared_ports.proofs.Words.{TriesRequest, at, is_tried, stepped_on, request_tried, rules}
 use Rattle.rr_shared_ports.proofs.try_send.Claimed+N+RequestMut+QB.try_send.Goals as goal
 
 -- it is the call of the port

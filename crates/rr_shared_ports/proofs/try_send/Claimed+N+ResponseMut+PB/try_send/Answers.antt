@@ -1,8 +1,4 @@
-use Rattle.rr_shared_ports.specs.Tries.{TriesResponse}
-use Rattle.rr_shared_ports.proofs.Telling.{at, is_spent}
-use Rattle.rr_shared_ports.proofs.Leading.{stepped_on}
-use Rattle.rr_shared_ports.proofs.LeadingWrites.{response_tried}
-use Rattle.std.proofs.Common.{rules}
+use Rattle.rr_shared_ports.proofs.Words.{TriesResponse, at, is_spent, stepped_on, response_tried, rules}
 use Rattle.rr_shared_ports.proofs.try_send.Claimed+N+ResponseMut+PB.try_send.Goals as goal
 
 -- it is the call of the port

@@ -1,8 +1,5 @@
-use Rattle.std.proofs.Common.{◌∷◌, []}
-use Rattle.std.specs.Fn.{FnOnceReturnsAt}
-use Rattle.rr_ports.specs.Facts.{Asks, Has, numbers_left}
-use Rattle.rr_ports.specs.Loaning.{SendsResponseCopy}
-use Rattle.rr_shared_ports.proofs.Telling.{answered}
+use Rattle.std.proofs.Common.{◌∷◌}
+use Rattle.rr_shared_ports.proofs.Words.{[], FnOnceReturnsAt, Asks, Has, numbers_left, SendsResponseCopy, answered}
 use Rattle.rr_shared_ports.proofs.typed.exchange.respond_if_numbered.Goals as goal
 
 -- it is the call of the port

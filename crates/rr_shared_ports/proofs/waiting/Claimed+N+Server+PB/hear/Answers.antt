@@ -1,11 +1,5 @@
-use Rattle.std.proofs.Common.{Err, IfErr, None, Ok, Some, ◌∙◌, ap, append-nil, refl, rules, subst, []}
-use Rattle.rr_ports.specs.Facts.{numbers_left}
-use Rattle.rr_protocol.specs.Receives.{ReceivesRequest}
-use Rattle.rr_protocol.specs.State.{empty_hub}
-use Rattle.rr_shared_ports.specs.Turns.{Answered}
-use Rattle.rr_shared_ports.specs.Waits.{IsOver}
-use Rattle.rr_shared_ports.proofs.Turns.{goes_on}
-use Rattle.rr_shared_ports.proofs.Waits.{ends_as, refuses_over}
+use Rattle.std.proofs.Common.{◌∙◌}
+use Rattle.rr_shared_ports.proofs.Words.{Err, IfErr, None, Ok, Some, ap, append-nil, refl, rules, subst, [], numbers_left, ReceivesRequest, empty_hub, Answered, IsOver, goes_on, ends_as, refuses_over}
 use Rattle.rr_shared_ports.proofs.waiting.Claimed+N+Server+PB.hear.Goals as goal
 
 pub loop-init : goal.loop-init

@@ -1,8 +1,4 @@
-use Rattle.rr_shared_ports.specs.Tries.{Initialises, ResponseIsComplete}
-use Rattle.rr_shared_ports.proofs.Telling.{at, is_tried}
-use Rattle.rr_shared_ports.proofs.Leading.{stepped_on}
-use Rattle.rr_shared_ports.proofs.LeadingWrites.{initialised_or_not}
-use Rattle.std.proofs.Common.{rules}
+use Rattle.rr_shared_ports.proofs.Words.{Initialises, ResponseIsComplete, at, is_tried, stepped_on, initialised_or_not, rules}
 use Rattle.rr_shared_ports.proofs.writing.Claimed+N+ResponseMutUninit+PB.assume_init.Goals as goal
 
 -- it is the call of the port

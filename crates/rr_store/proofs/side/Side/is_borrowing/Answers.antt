@@ -2,7 +2,7 @@ use Rattle.std.proofs.Common.{◌≡◌, ◌<◌, Some, length, map, nat_lt, sym
 use Rattle.std.specs.Prelude.{[], slice_get, slice_index_or}
 use Rattle.std.specs.List.{list_any}
 use Rattle.std.proofs.lemmas.List.{take_all}
-use Rattle.rr_map_laws.proofs.Members.{any_there}
+use Rattle.rr_table.proofs.Members.{any_there}
 use Rattle.rr_store.specs.Leaving.{is_borrowing}
 use Rattle.rr_store.specs.Parts.{Sender}
 use Rattle.rr_store.specs.Ports.{sender_part}

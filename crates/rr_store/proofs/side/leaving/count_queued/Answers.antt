@@ -2,7 +2,7 @@ use Rattle.std.proofs.Common.{◌≡◌, Some, length, get_or, map, take, sym, a
 use Rattle.std.specs.Prelude.{slice_get}
 use Rattle.std.proofs.lemmas.List.{length-take-le, take_all}
 use Rattle.std.proofs.lemmas.Option.{slice_get-get_or}
-use Rattle.rr_map_laws.proofs.ListFacts.{length-filter_le}
+use Rattle.rr_table.proofs.ListFacts.{length-filter_le}
 use Rattle.rr_store.specs.declared.port.LeftPort.{LeftPort}
 use Rattle.rr_store.specs.Leaving.{has_queued, queued_left}
 use Rattle.rr_store.specs.Ports.{sender_part}

@@ -1,5 +1,5 @@
 use Rattle.std.proofs.Common.{Some, subst}
-use Rattle.rr_commands.specs.declared.command.Command.{Command}
+use Rattle.rr_protocol.specs.declared.command.Command.{Command}
 use Rattle.rr_run.specs.declared.least.outcome.Outcome.TheVariants.{Created}
 use Rattle.rr_run.specs.Filled.{Does}
 use Rattle.rr_run.proofs.PoolSteps.{client_begins}

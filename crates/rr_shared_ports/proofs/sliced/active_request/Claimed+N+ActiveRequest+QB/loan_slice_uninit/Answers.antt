@@ -1,8 +1,4 @@
-use Rattle.std.proofs.Common.{rules, ⊎_elim, []}
-use Rattle.rr_protocol.specs.Loans.{LoansResponse}
-use Rattle.rr_ports.specs.Facts.{numbers_left, Keeps}
-use Rattle.rr_shared_ports.proofs.Telling.{answered, at, exhausted, is_made}
-use Rattle.rr_shared_ports.proofs.Leading.{response_loaned, stepped}
+use Rattle.rr_shared_ports.proofs.Words.{rules, ⊎_elim, [], LoansResponse, numbers_left, Keeps, answered, at, exhausted, is_made, response_loaned, stepped}
 use Rattle.rr_shared_ports.proofs.sliced.active_request.Claimed+N+ActiveRequest+QB.loan_slice_uninit.Goals as goal
 
 -- it is the call of the port

@@ -1,8 +1,4 @@
-use Rattle.std.proofs.Common.{refl, rules, ⊎_elim, [], length}
-use Rattle.rr_ports.specs.Loaning.{SendsResponseSlice}
-use Rattle.rr_ports.specs.Facts.{numbers_left, Keeps}
-use Rattle.rr_shared_ports.proofs.Telling.{answered, at, exhausted}
-use Rattle.rr_shared_ports.proofs.Leading.{response_elements_sent, stepped}
+use Rattle.rr_shared_ports.proofs.Words.{refl, rules, ⊎_elim, [], length, SendsResponseSlice, numbers_left, Keeps, answered, at, exhausted, response_elements_sent, stepped}
 use Rattle.rr_shared_ports.proofs.sliced.active_request.Claimed+N+ActiveRequest+QB.send_slice.Goals as goal
 
 -- it is the call of the port

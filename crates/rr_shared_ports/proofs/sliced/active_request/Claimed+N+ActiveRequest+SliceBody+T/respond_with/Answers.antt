@@ -1,9 +1,4 @@
-use Rattle.std.proofs.Common.{refl, ⊎_elim}
-use Rattle.std.specs.Prelude.{List}
-use Rattle.rr_ports.specs.Facts.{Asks, Has, numbers_left}
-use Rattle.rr_ports.specs.Responding.{Makes, RespondsSlice}
-use Rattle.rr_shared_ports.proofs.Telling.{answered, at, exhausted}
-use Rattle.rr_shared_ports.proofs.Leading.{slice_responded, stepped}
+use Rattle.rr_shared_ports.proofs.Words.{refl, ⊎_elim, List, Asks, Has, numbers_left, Makes, RespondsSlice, answered, at, exhausted, slice_responded, stepped}
 use Rattle.rr_shared_ports.proofs.sliced.active_request.Claimed+N+ActiveRequest+SliceBody+T.respond_with.Goals as goal
 
 -- it is the call of the port

@@ -1,8 +1,4 @@
-use Rattle.std.proofs.Common.{rules, ⊎_elim, []}
-use Rattle.rr_ports.specs.Loaning.{AreDefaults, LoansComplete}
-use Rattle.rr_ports.specs.Facts.{numbers_left, Keeps}
-use Rattle.rr_shared_ports.proofs.Telling.{answered, at, exhausted, is_made}
-use Rattle.rr_shared_ports.proofs.Leading.{complete_loaned, stepped}
+use Rattle.rr_shared_ports.proofs.Words.{rules, ⊎_elim, [], AreDefaults, LoansComplete, numbers_left, Keeps, answered, at, exhausted, is_made, complete_loaned, stepped}
 use Rattle.rr_shared_ports.proofs.sliced.client.Claimed+N+Client+SliceBody+T.loan_slice.Goals as goal
 
 -- it is the call of the port

@@ -1,8 +1,4 @@
-use Rattle.std.proofs.Common.{rules, ⊎_elim, []}
-use Rattle.rr_protocol.specs.Loans.{LoansRequest}
-use Rattle.rr_ports.specs.Facts.{numbers_left, Keeps}
-use Rattle.rr_shared_ports.proofs.Telling.{answered, at, exhausted, is_made}
-use Rattle.rr_shared_ports.proofs.Leading.{request_loaned, stepped}
+use Rattle.rr_shared_ports.proofs.Words.{rules, ⊎_elim, [], LoansRequest, numbers_left, Keeps, answered, at, exhausted, is_made, request_loaned, stepped}
 use Rattle.rr_shared_ports.proofs.sliced.client.Claimed+N+Client+SliceBody+T.loan_slice_uninit.Goals as goal
 
 -- it is the call of the port

@@ -1,8 +1,4 @@
-use Rattle.std.proofs.Common.{rules, ⊎_elim, [], length}
-use Rattle.rr_ports.specs.Loaning.{SendsSlice}
-use Rattle.rr_ports.specs.Facts.{numbers_left, Keeps}
-use Rattle.rr_shared_ports.proofs.Telling.{answered, at, exhausted, is_made}
-use Rattle.rr_shared_ports.proofs.Leading.{elements_sent, stepped}
+use Rattle.rr_shared_ports.proofs.Words.{rules, ⊎_elim, [], length, SendsSlice, numbers_left, Keeps, answered, at, exhausted, is_made, elements_sent, stepped}
 use Rattle.rr_shared_ports.proofs.sliced.client.Claimed+N+Client+SliceBody+T.send_slice.Goals as goal
 
 -- it is the call of the port

@@ -1,8 +1,4 @@
-use Rattle.std.specs.Prelude.{IsSomeAnd, option_and_then}
-use Rattle.std.specs.Fn.{FnOnceReturnsAt}
-use Rattle.rr_protocol.specs.Messages.{response_in}
-use Rattle.rr_protocol.specs.State.{handle_at}
-use Rattle.rr_shared_ports.proofs.Telling.{at_state}
+use Rattle.rr_shared_ports.proofs.Words.{IsSomeAnd, option_and_then, FnOnceReturnsAt, response_in, handle_at, at_state}
 use Rattle.rr_shared_ports.proofs.sliced.response.Claimed+N+Response+SliceBody+T.read.Goals as goal
 
 -- it is the call of the port

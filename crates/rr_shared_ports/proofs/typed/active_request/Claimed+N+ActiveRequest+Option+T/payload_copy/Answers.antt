@@ -1,8 +1,5 @@
-use Rattle.std.proofs.Common.{rules}
-use Rattle.std.specs.Prelude.{◌≡◌, ◌∷◌, [], IsSomeAnd, option_and_then}
-use Rattle.rr_protocol.specs.Messages.{request_in}
-use Rattle.rr_protocol.specs.State.{handle_at}
-use Rattle.rr_shared_ports.proofs.Telling.{at_state}
+use Rattle.std.proofs.Common.{◌≡◌, ◌∷◌}
+use Rattle.rr_shared_ports.proofs.Words.{rules, [], IsSomeAnd, option_and_then, request_in, handle_at, at_state}
 use Rattle.rr_shared_ports.proofs.typed.active_request.Claimed+N+ActiveRequest+Option+T.payload_copy.Goals as goal
 
 -- it is the call of the port

@@ -1,10 +1,5 @@
-use Rattle.std.proofs.Common.{refl, ⊎_elim, ◌∷◌, []}
-use Rattle.std.specs.Prelude.{◌∷◌, []}
-use Rattle.std.specs.Fn.{FnOnceReturnsAt}
-use Rattle.rr_ports.specs.Facts.{Asks, Has, numbers_left}
-use Rattle.rr_ports.specs.Loaning.{SendsResponseCopy}
-use Rattle.rr_shared_ports.proofs.Telling.{answered, at, exhausted}
-use Rattle.rr_shared_ports.proofs.Leading.{response_elements_sent, stepped}
+use Rattle.std.proofs.Common.{◌∷◌}
+use Rattle.rr_shared_ports.proofs.Words.{refl, ⊎_elim, [], FnOnceReturnsAt, Asks, Has, numbers_left, SendsResponseCopy, answered, at, exhausted, response_elements_sent, stepped}
 use Rattle.rr_shared_ports.proofs.typed.active_request.Claimed+N+ActiveRequest+Option+T.respond_with.Goals as goal
 
 -- it is the call of the port

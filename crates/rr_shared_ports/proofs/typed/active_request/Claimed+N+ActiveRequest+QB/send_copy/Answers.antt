@@ -1,8 +1,5 @@
-use Rattle.std.proofs.Common.{refl, rules, ⊎_elim, ◌∷◌, []}
-use Rattle.rr_ports.specs.Loaning.{SendsResponseCopy}
-use Rattle.rr_ports.specs.Facts.{numbers_left, Keeps}
-use Rattle.rr_shared_ports.proofs.Telling.{answered, at, exhausted}
-use Rattle.rr_shared_ports.proofs.Leading.{response_elements_sent, stepped}
+use Rattle.std.proofs.Common.{◌∷◌}
+use Rattle.rr_shared_ports.proofs.Words.{refl, rules, ⊎_elim, [], SendsResponseCopy, numbers_left, Keeps, answered, at, exhausted, response_elements_sent, stepped}
 use Rattle.rr_shared_ports.proofs.typed.active_request.Claimed+N+ActiveRequest+QB.send_copy.Goals as goal
 
 -- it is the call of the port

@@ -1,8 +1,5 @@
-use Rattle.std.proofs.Common.{rules, ⊎_elim, ◌∷◌, []}
-use Rattle.rr_ports.specs.Loaning.{SendsCopy}
-use Rattle.rr_ports.specs.Facts.{numbers_left, Keeps}
-use Rattle.rr_shared_ports.proofs.Telling.{answered, at, exhausted, is_made}
-use Rattle.rr_shared_ports.proofs.Leading.{elements_sent, stepped}
+use Rattle.std.proofs.Common.{◌∷◌}
+use Rattle.rr_shared_ports.proofs.Words.{rules, ⊎_elim, [], SendsCopy, numbers_left, Keeps, answered, at, exhausted, is_made, elements_sent, stepped}
 use Rattle.rr_shared_ports.proofs.typed.client.Claimed+N+Client+Option+T.send_copy.Goals as goal
 
 -- it is the call of the port

@@ -1,8 +1,4 @@
-use Rattle.std.proofs.Common.{refl, rules, ⊎_elim, []}
-use Rattle.rr_ports.specs.Shortcuts.{TellsCopy}
-use Rattle.rr_ports.specs.Facts.{numbers_left, Keeps}
-use Rattle.rr_shared_ports.proofs.Telling.{answered, at, exhausted}
-use Rattle.rr_shared_ports.proofs.Leading.{told, stepped}
+use Rattle.rr_shared_ports.proofs.Words.{refl, rules, ⊎_elim, [], TellsCopy, numbers_left, Keeps, answered, at, exhausted, told, stepped}
 use Rattle.rr_shared_ports.proofs.typed.client.Claimed+N+Client+Option+T.tell.Goals as goal
 
 -- it is the call of the port

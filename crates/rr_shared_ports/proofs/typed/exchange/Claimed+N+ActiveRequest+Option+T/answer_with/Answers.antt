@@ -1,6 +1,4 @@
-use Rattle.rr_shared_ports.specs.Exchanges.{AnswersWith}
-use Rattle.rr_shared_ports.proofs.Telling.{at_state}
-use Rattle.rr_shared_ports.proofs.Leading.{answered_with, stepped_on}
+use Rattle.rr_shared_ports.proofs.Words.{AnswersWith, at_state, answered_with, stepped_on}
 use Rattle.rr_shared_ports.proofs.typed.exchange.Claimed+N+ActiveRequest+Option+T.answer_with.Goals as goal
 
 -- it is the call of the port

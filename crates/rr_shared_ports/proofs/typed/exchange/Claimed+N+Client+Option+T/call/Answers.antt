@@ -1,5 +1,4 @@
-use Rattle.std.proofs.Common.{append-nil, []}
-use Rattle.rr_shared_ports.proofs.Turns.{goes_on}
+use Rattle.rr_shared_ports.proofs.Words.{append-nil, [], goes_on}
 use Rattle.rr_shared_ports.proofs.typed.exchange.Claimed+N+Client+Option+T.call.Goals as goal
 
 pub returns-in-Err-clause-seen : goal.returns-in-Err-clause-seen

@@ -1,7 +1,4 @@
-use Rattle.std.proofs.Common.{rules}
-use Rattle.rr_shared_ports.specs.Exchanges.{Finishes}
-use Rattle.rr_shared_ports.proofs.Telling.{at, is_spent}
-use Rattle.rr_shared_ports.proofs.Leading.{finished, stepped_on}
+use Rattle.rr_shared_ports.proofs.Words.{rules, Finishes, at, is_spent, finished, stepped_on}
 use Rattle.rr_shared_ports.proofs.typed.exchange.Claimed+N+PendingResponse+QB.finish.Goals as goal
 
 -- it is the call of the port

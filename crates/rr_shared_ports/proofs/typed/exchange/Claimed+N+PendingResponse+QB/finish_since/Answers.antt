@@ -1,12 +1,9 @@
-use Rattle.std.proofs.Common.{IfErr, Ok, ◌≡◌, ◌∙◌, ◌++◌, ap, rules, subst}
-use Rattle.rr_protocol.specs.Releases.{after_release}
-use Rattle.rr_protocol.specs.State.{empty_hub}
-use Rattle.rr_shared_ports.specs.Exchanges.{FindsOver, Finishes}
-use Rattle.rr_shared_ports.specs.Turns.{MakesCall, state_after}
-use Rattle.rr_shared_ports.proofs.Exchanges.{over_after}
-use Rattle.rr_shared_ports.proofs.Turns.{goes_on}
-use Rattle.rr_shared_ports.proofs.Waits.{ends_as}
+use Rattle.std.proofs.Common.{◌≡◌, ◌∙◌, ◌++◌}
+use Rattle.rr_shared_ports.proofs.Words.{IfErr, Ok, [], ap, append-nil, refl, rules, subst, after_release, empty_hub, FindsOver, Finishes, MakesCall, state_after, over_after, goes_on, ends_as}
 use Rattle.rr_shared_ports.proofs.typed.exchange.Claimed+N+PendingResponse+QB.finish_since.Goals as goal
+
+pub loop-init : goal.loop-init
+loop-init g c = (search rules, search rules, refl, ([], append-nil c.args.seat.now.1), refl)
 
 pub loop-preserved : goal.loop-preserved
 loop-preserved g c = (

@@ -1,4 +1,4 @@
-use Rattle.rr_shared_ports.proofs.Turns.{goes_on}
+use Rattle.rr_shared_ports.proofs.Words.{goes_on}
 use Rattle.rr_shared_ports.proofs.typed.exchange.Claimed+N+Server+Option+U.serve.Goals as goal
 
 pub returns-in-Ok-answer_with-clause-seen : goal.returns-in-Ok-answer_with-clause-seen

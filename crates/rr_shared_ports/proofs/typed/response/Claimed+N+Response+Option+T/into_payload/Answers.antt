@@ -1,9 +1,5 @@
-use Rattle.std.specs.Prelude.{◌≡◌, ◌∷◌, [], IsSomeAnd, option_and_then}
-use Rattle.rr_protocol.specs.Messages.{response_in}
-use Rattle.rr_protocol.specs.Releases.{after_release}
-use Rattle.rr_protocol.specs.State.{handle_at}
-use Rattle.rr_shared_ports.proofs.Telling.{at_state}
-use Rattle.rr_shared_ports.proofs.Leading.{released, stepped_on}
+use Rattle.std.proofs.Common.{◌≡◌, ◌∷◌}
+use Rattle.rr_shared_ports.proofs.Words.{[], IsSomeAnd, option_and_then, response_in, after_release, handle_at, at_state, released, stepped_on}
 use Rattle.rr_shared_ports.proofs.typed.response.Claimed+N+Response+Option+T.into_payload.Goals as goal
 
 -- it is the call of the port

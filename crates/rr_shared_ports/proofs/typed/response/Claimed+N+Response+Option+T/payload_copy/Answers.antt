@@ -1,8 +1,5 @@
-use Rattle.std.proofs.Common.{rules}
-use Rattle.std.specs.Prelude.{◌≡◌, ◌∷◌, [], IsSomeAnd, option_and_then}
-use Rattle.rr_protocol.specs.Messages.{response_in}
-use Rattle.rr_protocol.specs.State.{handle_at}
-use Rattle.rr_shared_ports.proofs.Telling.{at_state}
+use Rattle.std.proofs.Common.{◌≡◌, ◌∷◌}
+use Rattle.rr_shared_ports.proofs.Words.{rules, [], IsSomeAnd, option_and_then, response_in, handle_at, at_state}
 use Rattle.rr_shared_ports.proofs.typed.response.Claimed+N+Response+Option+T.payload_copy.Goals as goal
 
 -- it is the call of the port

@@ -1,4 +1,4 @@
-use Rattle.std.proofs.Common.{refl}
+use Rattle.rr_shared_ports.proofs.Words.{refl}
 use Rattle.rr_shared_ports.proofs.typed.active_request.fn.Claimed+N+ActiveRequest+Option+T.read.looked.Goals as goal
 
 -- it returns what the function returns of the payload

@@ -1,5 +1,4 @@
-use Rattle.std.proofs.Common.{rules}
-use Rattle.rr_ports.specs.Facts.{Keeps}
+use Rattle.rr_shared_ports.proofs.Words.{rules, Keeps}
 use Rattle.rr_shared_ports.proofs.typed.exchange.fn.Claimed+N+ActiveRequest+Option+T.answer_with.ended.Goals as goal
 
 -- the request was answered before it ended

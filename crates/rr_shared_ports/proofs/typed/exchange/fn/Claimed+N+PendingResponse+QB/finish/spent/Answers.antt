@@ -1,6 +1,5 @@
-use Rattle.std.proofs.Common.{Ok, ◌∙◌, ap, rules, subst}
-use Rattle.rr_ports.specs.Shortcuts.{ReceivesCopy}
-use Rattle.rr_ports.specs.Facts.{Keeps}
+use Rattle.std.proofs.Common.{◌∙◌}
+use Rattle.rr_shared_ports.proofs.Words.{Ok, ap, rules, subst, ReceivesCopy, Keeps}
 use Rattle.rr_shared_ports.proofs.typed.exchange.fn.Claimed+N+PendingResponse+QB.finish.spent.Goals as goal
 
 -- the value was received before the request ended

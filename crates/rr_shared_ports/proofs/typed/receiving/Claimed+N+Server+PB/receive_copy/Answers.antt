@@ -1,0 +1,26 @@
+use Rattle.rr_shared_ports.proofs.Words.{refl, rules, ⊎_elim, [], HearsCopy, numbers_left, Keeps, answered, at, exhausted, request_copied, stepped}
+use Rattle.rr_shared_ports.proofs.typed.receiving.Claimed+N+Server+PB.receive_copy.Goals as goal
+
+-- it is the call of the port
+pub returns : goal.returns
+returns g c =
+    let made = c.numbered.ensures in (
+      made.0,
+      made.1,
+      made.2,
+      made.3,
+      ⊎_elim
+          (λ told.
+          let call = told.2 in
+          let by : HearsCopy call.shown.now c.handle-handle.result.now told.0 call.left.now = search rules in
+          answered numbers_left (λ result old new. HearsCopy old c.args.self.now result new) told.0 c.numbered.result _ _ told.1
+          (at (λ old n result new. HearsCopy old n result new) call.shows c.handle-handle.ensures refl call.leaves by))
+          (λ none. exhausted numbers_left (λ result old new. HearsCopy old c.args.self.now result new) c.numbered.result _ _ none) made.4,
+    )
+
+-- and a step
+pub numbered-requires-clause-keeps : goal.numbered-requires-clause-keeps
+numbered-requires-clause-keeps g c κs within state returned after call =
+    let by : HearsCopy call.shown.now c.handle-handle.result.now returned call.left.now = search rules in
+    let keeps : Keeps [] call.shown.now call.left.now = search rules in
+    stepped g.K.BackpressureFn.action g.QH.Default.is_default g.PH.Default.is_default call.shows call.leaves keeps (request_copied g.K.BackpressureFn.action g.QH.Default.is_default g.PH.Default.is_default call.shown.now call.left.now c.handle-handle.result.now returned by)
