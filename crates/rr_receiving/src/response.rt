@@ -68,8 +68,8 @@ pub fn receive_response_at<
     }
 }
 
-/// Returns from which server's sender a client takes its next response on a channel, of which it may have `most` from
-/// each.
+/// Polls the servers' senders for a client's next response on a channel, round robin. Skips those from which the client
+/// holds `most`.
 #[inline(always)]
 fn next_response_sender<B: Body, H: Drop, P: Drop>(
     servers: &Side<B, ResponseDetails, H, P>,
